@@ -6,7 +6,7 @@ use Rattle.std.proofs.lemmas.Bool.{cases_lt}
 use Rattle.std.proofs.Math.Seq.{take-add}
 use Rattle.confirm_book.specs.declared.kind.Kind.{Kind}
 use Rattle.confirm_book.specs.declared.book.Totals.{Totals}
-use Rattle.confirm_book.specs.Book.{Ledger, is_cast, is_publish, totals_of, new_ledger, KeepsAll, published, newly, came_round, totals_in, IsBookOf}
+use Rattle.confirm_book.specs.Book.{Ledger, is_cast, is_publish, last_of, totals_of, new_ledger, KeepsAll, published, newly, came_round, totals_in, IsBookOf, without_room, book_in}
 use Rattle.confirm_book.specs.Calls.{Call, Reserve, Published, CameRound, IsCalls, after, log_of, confirmed_by}
 
 -- totals are one where their numbers are
@@ -101,3 +101,49 @@ book_calls log confirmed b (CameRound to ∷ calls) h can =
     let e : max (confirmed_by calls) (max to confirmed) ≡ max (max to (confirmed_by calls)) confirmed = omega arith in
     subst (λ n. IsBookOf (log ++ log_of calls) n (after (came_round to b) calls)) e
     (book_calls log (max to confirmed) (came_round to b) calls (book_came_round log confirmed to b h reached) can.1)
+
+-- ---- but for the room
+
+-- a log has its book
+pub book_there : (log : List Kind) (confirmed : ℕ) → confirmed ≤ length log → IsBookOf log confirmed (book_in confirmed log)
+book_there log confirmed le = record {
+  reached = le;
+  number = refl;
+  waiting = refl;
+  totals = same_totals (totals_of (book_in confirmed log)) (totals_in confirmed log) (all is_cast) refl (all is_publish) refl;
+}
+  where
+    all : (t : Kind → Bool) → count_by t (take confirmed log) + count_by t (drop confirmed log) ≡ count_by t log
+    all t = sum_by-take-drop (λ k. cond (t k) 1 0) log confirmed
+
+-- it is no other
+pub only_book : (log : List Kind) (confirmed : ℕ) (b : Ledger) → IsBookOf log confirmed b → without_room b ≡ book_in confirmed log
+only_book log confirmed b h =
+    let book : ℕ → ℕ → ℕ → List Kind → Ledger = λ k m n ks. record { confirmed = k; casts_confirmed = m; publishes_confirmed = n; waiting = ks; spare = 0 } in
+    ap (λ k. book k b.casts_confirmed b.publishes_confirmed b.waiting) h.number
+    ∙ ap (λ (t : Totals). book confirmed t.casts_confirmed t.publishes_confirmed b.waiting) h.totals
+    ∙ ap (book confirmed (count_by is_cast (take confirmed log)) (count_by is_publish (take confirmed log))) h.waiting
+
+-- so who has it, whatever the room, is the book of the log
+pub book_is : (log : List Kind) (confirmed : ℕ) (b : Ledger) → confirmed ≤ length log → without_room b ≡ book_in confirmed log → IsBookOf log confirmed b
+book_is log confirmed b le e = book_kept log confirmed (book_in confirmed log) b (book_there log confirmed le) (record {
+  confirmed = ap (λ (l : Ledger). l.confirmed) e;
+  casts_confirmed = ap (λ (l : Ledger). l.casts_confirmed) e;
+  publishes_confirmed = ap (λ (l : Ledger). l.publishes_confirmed) e;
+  waiting = ap (λ (l : Ledger). l.waiting) e;
+})
+
+-- a message more
+pub book_in_published : (log : List Kind) (confirmed : ℕ) (kind : Kind) → confirmed ≤ length log → published kind (book_in confirmed log) ≡ book_in confirmed (log ++ kind ∷ [])
+book_in_published log confirmed kind le = only_book (log ++ kind ∷ []) confirmed (published kind (book_in confirmed log)) (book_published log confirmed kind (book_in confirmed log) (book_there log confirmed le))
+
+-- more have come round
+pub book_in_round : (log : List Kind) (confirmed to : ℕ) → confirmed ≤ to → to ≤ length log → without_room (came_round to (book_in confirmed log)) ≡ book_in to log
+book_in_round log confirmed to le reached =
+    let later : max to confirmed ≡ to = omega arith in
+    only_book log (max to confirmed) (came_round to (book_in confirmed log)) (book_came_round log confirmed to (book_in confirmed log) (book_there log confirmed (omega arith)) reached)
+    ∙ ap (λ k. book_in k log) later
+
+-- the number of its last message is that of the log
+pub last_in : (log : List Kind) (confirmed : ℕ) → confirmed ≤ length log → last_of (book_in confirmed log) ≡ length log
+last_in log confirmed le = let rest : length (drop confirmed log) ≡ length log - confirmed = length-drop confirmed log in omega (arith, rest)

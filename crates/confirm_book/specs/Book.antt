@@ -67,6 +67,10 @@ came_round to b = record b {
   spare = b.spare + (to - b.confirmed);
 }
 
+-- a book, but for its room
+abbrev pub without_room : Ledger → Ledger
+without_room b = record b { spare = 0 }
+
 -- ---- the log
 
 -- the totals of a log of these kinds, of which so many messages have come round
@@ -84,3 +88,13 @@ pub record IsBookOf (log : List Kind) (confirmed : ℕ) (b : Ledger) : Type 0 wh
   pub number : b.confirmed ≡ confirmed
   pub waiting : b.waiting ≡ drop confirmed log
   pub totals : totals_of b ≡ totals_in confirmed log
+
+-- that book, but for its room
+abbrev pub book_in : ℕ → List Kind → Ledger
+book_in confirmed log = record {
+  confirmed = confirmed;
+  casts_confirmed = count_by is_cast (take confirmed log);
+  publishes_confirmed = count_by is_publish (take confirmed log);
+  waiting = drop confirmed log;
+  spare = 0;
+}

@@ -1,4 +1,4 @@
--- A member that is answered the newest view, or the one that its mark, its erasure or its admission makes.
+-- A member that is answered the newest view, or the one that its mark, its erasure, its registration or its admission makes.
 use Rattle.std.proofs.Common.{◌≡◌, ℕ, ◌+◌, ◌<◌, ◌≤◌, Bool, true, false, cond, nat_eq, nat_lt, List, [], ◌∷◌, ◌++◌, Some, None, refl, sym, ap, subst, ◌∙◌, arith}
 use Rattle.std.proofs.lemmas.List.{append-nil}
 use Rattle.std.proofs.lemmas.Bool.{le-ltb}
@@ -16,14 +16,14 @@ use Rattle.ring_rules.specs.Refusal.{or_else, refuse_if}
 use Rattle.ring_rules.specs.Machine.{World, member_at, view_in, newest, is_waiting}
 use Rattle.ring_rules.specs.View.{right_of}
 use Rattle.ring_rules.specs.Step.{size, opening, with_view, admitted_view, come_to}
-use Rattle.ring_rules.specs.Event.{is_stopped, id_of, erased_view, refreshed, refusal, effect, last}
-use Rattle.ring_rules.proofs.events.WhatRefuses.{MayMark, MayErase}
+use Rattle.ring_rules.specs.Event.{is_stopped, id_of, erased_view, synced_view, refreshed, refusal, effect, last}
+use Rattle.ring_rules.proofs.events.WhatRefuses.{MayMark, MayErase, MaySync}
 use Rattle.ring_rules.proofs.rings.Rounds.{nat_eq-not}
 use Rattle.ring_rules.proofs.invariants.KeptAdmit.{CanJoin, right_of_m}
-use Rattle.ring_rules.proofs.invariants.Happens.{IsGood, mark_good, erase_good, newer_look}
+use Rattle.ring_rules.proofs.invariants.Happens.{IsGood, mark_good, erase_good, sync_there, sync_good, newer_look}
 use Rattle.gm_member.specs.View.{is_up_where}
 use Rattle.gm_member.specs.Held.{Held, Incoming, fresh_in, sends_to, answered_held, refresh_refused, refreshed_held}
-use Rattle.gm_member.specs.Stands.{held_in, WhereItStands, Stands, StepsTo, IsMarkedView, IsErasedView, IsAdmittedView, with_own_link}
+use Rattle.gm_member.specs.Stands.{held_in, WhereItStands, Stands, StepsTo, IsMarkedView, IsErasedView, IsRegisteredView, IsAdmittedView, with_own_link}
 use Rattle.gm_member.specs.Questions.{OfView}
 use Rattle.gm_member.proofs.Doors.{view_version}
 use Rattle.gm_member.proofs.Facts.{right_row, done_there}
@@ -32,7 +32,7 @@ use Rattle.gm_member.proofs.OpenDoors.{SeesLinks, sees_links}
 use Rattle.gm_member.proofs.RefreshStands.{RowsAreRight}
 use Rattle.gm_member.proofs.AdmitStands.{admit_can, come_held, come_sees, come_right}
 use Rattle.gm_member.proofs.Lifts.{refreshed_alone, refresh_alone, lifts, refresh_lifts}
-use Rattle.gm_member.proofs.MarkStands.{view_held, view_newest, mark_view, mark_may, mark_is, erase_may, erase_is}
+use Rattle.gm_member.proofs.MarkStands.{view_held, view_newest, mark_view, mark_may, mark_is, erase_may, erase_is, register_may, register_is}
 
 -- who has a question open is up
 pub asks_up : (asked : Bool) (phase : Phase) → asked ≡ true → is_up_where asked phase ≡ true → phase ≡ Up
@@ -88,7 +88,7 @@ follow_lifts event IsMade h h' v each e credit names events x are r some lt s ot
     ∙ lifts (answered_held h) (λ w y k. IsMade w y other v → refusal w (event k.name other) ≡ None → refreshed_alone v k ≡ held_in (effect w (event k.name other)) y) (λ w y f a b. each w y other f a b)
     credit names events x are r some lt s made enabled
 
--- so a mark's is, and an erasure's
+-- so a mark's is, an erasure's, and a registration's
 mark_read : (v : Group) → IsReadAs event.Mark (λ w _. IsMarkedView w) v
 mark_read v w x dead f some lt (d, there, is) r =
     let named : id_of w (member_at w x).name ≡ Some x = f.named x some lt in
@@ -101,6 +101,12 @@ erase_read v w x origin f some lt (p, there, is) r =
     let m : MayErase w x p = erase_may w x p (member_at w x).name origin named there r in
     view_stands w x v (erased_view w p) (event.Erase (member_at w x).name origin) f lt m.up (erase_good w p m.dead f.good) is (erase_is w x p (member_at w x).name origin named there)
 
+register_read : (v : Group) → IsReadAs (λ by other. event.Synced by) (λ w x _. IsRegisteredView w x) v
+register_read v w x other f some lt is r =
+    let named : id_of w (member_at w x).name ≡ Some x = f.named x some lt in
+    let m : MaySync w x = register_may w x (member_at w x).name named r in
+    view_stands w x v (synced_view w x) (event.Synced (member_at w x).name) f lt m.up (sync_good w x (sync_there w x m f.good) f.good) is (register_is w x (member_at w x).name named)
+
 pub mark_lifts : (h h' : Held) (v : Group) → h' ≡ refreshed_held (answered_held h) v
     → WhereItStands (answered_held h) (λ w x. (dead : List ℕ) → IsMarkedView w dead v → refusal w (event.Mark h.name dead) ≡ None → Stands (effect w (event.Mark h.name dead)) x (with_own_link h v h'))
 mark_lifts h h' v = follow_lifts event.Mark (λ w _. IsMarkedView w) h h' v (mark_read v)
@@ -108,6 +114,11 @@ mark_lifts h h' v = follow_lifts event.Mark (λ w _. IsMarkedView w) h h' v (mar
 pub erase_lifts : (h h' : Held) (v : Group) → h' ≡ refreshed_held (answered_held h) v
     → WhereItStands (answered_held h) (λ w x. (origin : List ℕ) → IsErasedView w origin v → refusal w (event.Erase h.name origin) ≡ None → Stands (effect w (event.Erase h.name origin)) x (with_own_link h v h'))
 erase_lifts h h' v = follow_lifts event.Erase (λ w _. IsErasedView w) h h' v (erase_read v)
+
+pub register_lifts : (h h' : Held) (v : Group) → h' ≡ refreshed_held (answered_held h) v
+    → WhereItStands (answered_held h) (λ w x. IsRegisteredView w x v → refusal w (event.Synced h.name) ≡ None → Stands (effect w (event.Synced h.name)) x (with_own_link h v h'))
+register_lifts h h' v e credit names events x are r some lt s =
+    follow_lifts (λ by other. event.Synced by) (λ w y _. IsRegisteredView w y) h h' v (register_read v) e credit names events x are r some lt s []
 
 -- ---- an admission
 

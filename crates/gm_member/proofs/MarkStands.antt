@@ -1,4 +1,4 @@
--- A member that has another marked dead, or erased, stands where the ring's event leaves it.
+-- A member that has another marked dead, or erased, or itself registered, stands where the ring's event leaves it.
 use Rattle.std.proofs.Common.{◌≡◌, ℕ, ◌+◌, ◌<◌, nat_eq, nat_le, List, length, map, max, Option, Some, None, refl, sym, ap, ◌∙◌, arith}
 use Rattle.std.specs.Prelude.{◌&&◌}
 use Rattle.ring_names.specs.declared.reason.Reason.{Reason}
@@ -8,12 +8,12 @@ use Rattle.ring_rules.specs.Machine.{Link, World, member_at, link_at, view_in, n
 use Rattle.ring_rules.specs.OpenLinks.{version_of, since_in, comes_from_left, is_door_link}
 use Rattle.ring_rules.specs.Step.{with_view}
 use Rattle.ring_rules.specs.declared.phase.Phase.TheVariants.{Up}
-use Rattle.ring_rules.specs.declared.event.Event.TheVariants.{Mark, Erase}
-use Rattle.ring_rules.specs.Event.{id_of, of_member, up_refusal, at_found, mark_refusal, erase_refusal, erased_view, refreshed, refusal, effect}
+use Rattle.ring_rules.specs.declared.event.Event.TheVariants.{Mark, Erase, Synced}
+use Rattle.ring_rules.specs.Event.{id_of, of_member, up_refusal, at_found, mark_refusal, erase_refusal, synced_refusal, erased_view, synced_view, refreshed, refusal, effect}
 use Rattle.ring_rules.proofs.events.Refusals.{id_within}
 use Rattle.ring_rules.proofs.events.Enabled.{up_none}
-use Rattle.ring_rules.proofs.events.Cases.{may_mark, may_erase}
-use Rattle.ring_rules.proofs.events.WhatRefuses.{MayMark, MayErase}
+use Rattle.ring_rules.proofs.events.Cases.{IsUp, may_mark, may_erase, may_sync}
+use Rattle.ring_rules.proofs.events.WhatRefuses.{MayMark, MayErase, MaySync}
 use Rattle.ring_rules.proofs.walks.Views.{view_old, view_new, left_old}
 use Rattle.ring_rules.proofs.invariants.Happens.{IsGood}
 use Rattle.gm_member.specs.Stands.{known_in, incoming_in, waits_for, door_in, held_in}
@@ -89,3 +89,16 @@ erase_may w x p by origin named there r =
 pub erase_is : (w : World) (x p : ℕ) (by origin : List ℕ) → id_of w by ≡ Some x → id_of w origin ≡ Some p
     → effect w (Erase by origin) ≡ refreshed (with_view w (erased_view w p)) x (newest w + 1)
 erase_is w x p by origin = both_done w x p by origin (λ y e. refreshed (with_view w (erased_view w e)) y (newest w + 1))
+
+-- ---- a registration
+
+-- who was found may be registered
+pub register_may : (w : World) (x : ℕ) (by : List ℕ) → id_of w by ≡ Some x → refusal w (Synced by) ≡ None → MaySync w x
+register_may w x by named r =
+    let within = id_within w by x named in
+    let a = up_none w x (synced_refusal w x) (sym (ap (λ o. of_member o (λ y. up_refusal w y (synced_refusal w y))) named) ∙ r) in
+    let u : IsUp w x = record { some = within.0; lt = within.1; up = a.0 } in may_sync w x u a.1
+
+-- it is a look at the view in which it is
+pub register_is : (w : World) (x : ℕ) (by : List ℕ) → id_of w by ≡ Some x → effect w (Synced by) ≡ refreshed (with_view w (synced_view w x)) x (newest w + 1)
+register_is w x by named = ap (λ o. at_found o w (λ y. refreshed (with_view w (synced_view w y)) y (newest w + 1))) named

@@ -8,7 +8,7 @@ use Rattle.group_view.specs.declared.request.Answer.TheVariants.{Viewed, Admitte
 use Rattle.group_view.specs.declared.request.Deposited.{Deposited}
 use Rattle.activity.specs.Kept.{got_of}
 use Rattle.gm_member.specs.declared.questions.Ask.{Ask}
-use Rattle.gm_member.specs.declared.questions.Ask.TheVariants.{Mark, Admit, Erase, Refresh, Collect}
+use Rattle.gm_member.specs.declared.questions.Ask.TheVariants.{Mark, Admit, Erase, Register, Refresh, Collect}
 use Rattle.gm_member.specs.Packets.{known_at}
 use Rattle.gm_member.specs.Held.{Held, first_at_door, answered_held, refreshed_held, collected_held}
 use Rattle.gm_member.specs.Arrivals.{incoming_of}
@@ -18,6 +18,7 @@ abbrev pub may_bring_view : Ask → Bool
 may_bring_view (Mark dead) = true
 may_bring_view (Admit newcomer) = true
 may_bring_view (Erase origin) = true
+may_bring_view (Register missing) = true
 may_bring_view Refresh = true
 may_bring_view Collect = false
 
@@ -32,6 +33,7 @@ module _ {I : Type 0} where
   asked_for h (Admit newcomer) = request.Admit (as_id h.id) newcomer
   asked_for h (Erase origin) =
       request.Erase (as_id h.id) origin (got_of (known_at h.known (origin.0 - 1))) (known_at h.known (origin.0 - 1)).retired h.view.version
+  asked_for h (Register missing) = request.Synced (as_id h.id) missing
   asked_for h Refresh = request.Refresh (as_id h.id)
   asked_for h Collect = request.Collect (as_id h.id)
 

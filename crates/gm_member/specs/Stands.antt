@@ -16,7 +16,7 @@ use Rattle.ring_rules.specs.Compact.{has_line}
 use Rattle.ring_rules.specs.Machine.{World, Packet, Sending, row_at, numbers_at, member_at, link_at, view_in, newest, is_waiting, oldest}
 use Rattle.ring_rules.specs.OpenLinks.{is_door_link, passes}
 use Rattle.ring_rules.specs.Step.{size, log_of, is_owned, next_packet, admitted_view, opening}
-use Rattle.ring_rules.specs.Event.{Saying, Says, kind_of, message_of, id_of, by_of, erased_view, refusal, effect, IsRun, last}
+use Rattle.ring_rules.specs.Event.{Saying, Says, kind_of, message_of, id_of, by_of, erased_view, synced_view, refusal, effect, IsRun, last}
 use Rattle.gm_member.specs.declared.taken.Taken.{Taken}
 use Rattle.activity.specs.Kept.{Kept}
 use Rattle.activity.specs.LastSent.{LastSent}
@@ -111,6 +111,10 @@ IsMarkedView w dead v = (d : ℕ) × (id_of w dead ≡ Some d) × (v ≡ marked 
 -- what erasing the member of a name makes of it
 abbrev pub IsErasedView : World → List ℕ → Group → Type 0
 IsErasedView w origin v = (p : ℕ) × (id_of w origin ≡ Some p) × (v ≡ erased_view w p)
+
+-- what registering the member of an id as synchronised makes of it
+abbrev pub IsRegisteredView : World → ℕ → Group → Type 0
+IsRegisteredView w x v = v ≡ synced_view w x
 
 -- what admitting a member of a name makes of it, by the member of an id
 abbrev pub IsAdmittedView : World → ℕ → List ℕ → Group → Type 0

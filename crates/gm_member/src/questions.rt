@@ -19,6 +19,9 @@ pub enum Ask {
     Admit(Name),
     /// To erase a dead member, for which it answers.
     Erase(MemberId),
+    /// To register the member itself as synchronised, where its mirror lacks so many messages; `None` where it hasn't
+    /// heard yet how many there are.
+    Register { missing: Option<u64> },
     /// For the newest view.
     Refresh,
     /// For the links that wait for it.
@@ -32,13 +35,14 @@ impl<O: LinkPair<Load, In = I>, I: LinkIn<Load> + Drop> Member<O, I> {
     ghost use Rattle.group_view.specs.Ring.{is_in};
     ghost use Rattle.ring_rules.specs.declared.event.Event.TheVariants.{Mark as TheMark, Refresh as TheRefresh};
     ghost use Rattle.ring_rules.specs.declared.event.Event.TheVariants.{Erase as TheErase, Admit as TheAdmit};
+    ghost use Rattle.ring_rules.specs.declared.event.Event.TheVariants.{Synced as TheSynced};
     ghost use Rattle.ring_rules.specs.Machine.{view_in, newest};
     ghost use Rattle.ring_rules.specs.View.{ids};
     ghost use Rattle.gm_member.specs.View.{count_of};
     ghost use Rattle.gm_member.specs.Held.{ask_refused, asking_held, answered_held, collected_held, refreshed_held};
     ghost use Rattle.ring_rules.specs.Event.{refusal, effect};
     ghost use Rattle.gm_member.specs.Stands.{WhereItStands, Stands, StepsTo, IsMarkedView, with_own_link};
-    ghost use Rattle.gm_member.specs.Stands.{IsErasedView, IsAdmittedView};
+    ghost use Rattle.gm_member.specs.Stands.{IsErasedView, IsRegisteredView, IsAdmittedView};
     ghost use Rattle.gm_member.specs.Shown.{When, held_of, ends_of, OutIsReady, LooksBy, MovesTo};
     ghost use Rattle.gm_member.specs.Shown.{SpareIsReady, SpareIsSound, KeepsSpare, HasRoom, StaysReady, OutIsBack};
     ghost use Rattle.gm_member.specs.Arrivals.{incoming_of, with_arrived};
@@ -78,10 +82,10 @@ impl<O: LinkPair<Load, In = I>, I: LinkIn<Load> + Drop> Member<O, I> {
     }
 
     /// The member asks the registrar, and does nothing more until the answer comes; the request is what is to be asked.
-    /// For a mark, an admission, an erasure and a view it gets a link ready, with which the answer wants no memory.
-    /// Refused with `Stopped`, `Waiting`, and `AwaitingAnswer` while an earlier question is open. As
+    /// For a mark, an admission, an erasure, a registration and a view it gets a link ready, with which the answer
+    /// wants no memory. Refused with `Stopped`, `Waiting`, and `AwaitingAnswer` while an earlier question is open. As
     /// `gm:record_dead_member_in_group`, `gm:record_new_member_in_group`, `gm:erase_members_in_group` and
-    /// `gm:read_group`.
+    /// `gm:read_group`, and of a registration as `rabbit_mirror_queue_slave:record_synchronised`.
     pub fn ask(&mut self, what: Ask) -> Result<Request<I>, MemberFault>
         ensures heeds { Heeds (ask_refused (held_of self.old)) result }
         ensures fault { IfErr result (IsFault (ask_refused (held_of self.old))) }
@@ -114,7 +118,8 @@ impl<O: LinkPair<Load, In = I>, I: LinkIn<Load> + Drop> Member<O, I> {
     {
         match *what {
             Ask::Collect => self.spare = None,
-            Ask::Mark(_) | Ask::Admit(_) | Ask::Erase(_) | Ask::Refresh => self.prepare()?,
+            Ask::Mark(_) | Ask::Admit(_) | Ask::Erase(_) | Ask::Register { .. } | Ask::Refresh =>
+                self.prepare()?,
         }
         Ok(())
     }
@@ -139,6 +144,10 @@ impl<O: LinkPair<Load, In = I>, I: LinkIn<Load> + Drop> Member<O, I> {
             },
             Ask::Admit(name) => Request::Admit { by: self.id, name },
             Ask::Erase(origin) => self.erasure(origin),
+            Ask::Register { missing } => Request::Synced {
+                by: self.id,
+                missing,
+            },
             Ask::Refresh => Request::Refresh { by: self.id },
             Ask::Collect => Request::Collect { by: self.id },
         }
@@ -210,6 +219,13 @@ impl<O: LinkPair<Load, In = I>, I: LinkIn<Load> + Drop> Member<O, I> {
             (λ v. WhereItStands (answered_held (held_of self.old)) (λ w x. (origin : List ℕ) → IsErasedView w origin v
             → refusal w (TheErase (held_of self.old).name origin) ≡ None
             → Stands (effect w (TheErase (held_of self.old).name origin)) x
+            (with_own_link (held_of self.old) v (held_of self.new))))) }
+
+        // Of the one in which the member itself is registered as synchronised.
+        ensures registers { SpareIsSound O.are_fresh O.free O.ended self.old → OnOk result (OfView answer
+            (λ v. WhereItStands (answered_held (held_of self.old)) (λ w x. IsRegisteredView w x v
+            → refusal w (TheSynced (held_of self.old).name) ≡ None
+            → Stands (effect w (TheSynced (held_of self.old).name)) x
             (with_own_link (held_of self.old) v (held_of self.new))))) }
 
         // And of the view in which it has admitted one of a name, who is its right neighbour then.

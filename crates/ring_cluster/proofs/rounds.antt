@@ -7,6 +7,7 @@ pub mod Holding
 pub mod Members
 pub mod Named
 pub mod Numbers
+pub mod Passing
 pub mod Playing
 pub mod Resting
 pub mod Serving

@@ -1,12 +1,12 @@
 -- What is still to be done, by the name of the member that was asked. One that nobody has yet may have an agenda too.
-use Rattle.std.specs.Prelude.{◌≡◌, ℕ, true, List, [], ◌∷◌, ◌++◌, length, map, position, bytes_eq, slice_set, slice_index_or, Option, Some, None}
+use Rattle.std.specs.Prelude.{◌≡◌, ℕ, List, [], ◌∷◌, ◌++◌, length, map, position, bytes_eq, slice_set, slice_index_or, Option, Some, None}
 use Rattle.std.specs.List.{sum_by}
 use Rattle.ring_rules.specs.declared.event.Client.{Client}
-use Rattle.ring_rules.specs.Event.{asked_of, is_asked_multicast}
+use Rattle.ring_rules.specs.Event.{asked_of}
 
--- this is asked of the member of that name, and is of the ring alone
+-- this is asked of the member of that name
 abbrev pub IsAskedOf : List ℕ → Client → Type 0
-IsAskedOf name t = (asked_of t ≡ name) × (is_asked_multicast t ≡ true)
+IsAskedOf name t = asked_of t ≡ name
 
 -- An agenda: whose it is, and what clients asked of that one, what is to be done next first.
 pub record Plan : Type 0 where

@@ -1,22 +1,22 @@
 -- When a journal plays what a cluster was given.
-use Rattle.std.specs.Prelude.{◌≡◌, ℕ, ◌+◌, ◌&&◌, ◌<◌, ◌≤◌, Bool, true, false, not, List, [], ◌∷◌, ◌++◌, length, map, take, slice_get, bytes_eq, Option, Some, None, IsSome, if◌then◌else◌, Contains}
-use Rattle.std.specs.List.{flat_map, filter}
+use Rattle.std.specs.Prelude.{◌≡◌, ◌⊎◌, ℕ, ◌+◌, ◌&&◌, ◌<◌, ◌≤◌, Bool, true, false, not, List, [], ◌∷◌, ◌++◌, length, map, take, slice_get, bytes_eq, Option, Some, None, IsSome, if◌then◌else◌, Contains}
+use Rattle.std.specs.List.{flat_map, filter, list_any}
 use Rattle.ring_names.specs.declared.numbers.CreditSpec.{CreditSpec}
 use Rattle.ring_names.specs.declared.reason.Reason.{Reason}
 use Rattle.ring_names.specs.Reason.{code_of}
 use Rattle.ring_script.specs.declared.command.Command.{Command}
 use Rattle.ring_script.specs.declared.command.Command.TheVariants as command
 use Rattle.ring_rules.specs.declared.event.Event.{Event}
-use Rattle.ring_rules.specs.declared.event.Event.TheVariants.{Refuse}
+use Rattle.ring_rules.specs.declared.event.Event.TheVariants.{Refuse, Start}
 use Rattle.ring_rules.specs.declared.event.Client.{Client}
 use Rattle.ring_rules.specs.declared.event.Client.TheVariants as client
 use Rattle.ring_rules.specs.declared.phase.Phase.{Phase}
 use Rattle.ring_rules.specs.declared.phase.Phase.TheVariants.{Waiting, Up, Stopped}
 use Rattle.ring_rules.specs.Machine.{World, member_at}
 use Rattle.ring_rules.specs.Step.{opening}
-use Rattle.ring_rules.specs.Event.{by_of, is_asked, event_of, refusal, last}
-use Rattle.ring_rules.specs.Quiet.{RingRests}
-use Rattle.ring_cluster.specs.Agendas.{tasks_in, with_tasks, with_asked}
+use Rattle.ring_rules.specs.Event.{by_of, is_asked, is_passing, event_of, refusal, last}
+use Rattle.ring_rules.specs.Quiet.{IsQuiet}
+use Rattle.ring_cluster.specs.Agendas.{IsAskedOf, tasks_in, with_tasks, with_asked}
 use Rattle.ring_cluster.specs.Handed.{handing, given_to, handed}
 use Rattle.ring_cluster.specs.Seen.{Seen, state_of, IsMemberIn}
 use Rattle.ring_parties.specs.States.{state}
@@ -39,6 +39,11 @@ client_events name events = flat_map (client_event name) events
 -- what a command asks of a member; one of the whole ring asks nothing of any
 abbrev pub client_of : Command → Option Client
 client_of (command.Cast by body) = Some (client.Cast by body)
+client_of (command.Publish by body) = Some (client.Publish by body)
+client_of (command.Get by) = Some (client.Get by)
+client_of (command.Pop by) = Some (client.Pop by)
+client_of (command.Ack by at) = Some (client.Ack by at)
+client_of (command.Requeue by at) = Some (client.Requeue by at)
 client_of (command.Join by newcomer) = Some (client.Admit by newcomer)
 client_of (command.Kill by) = Some (client.Stop by)
 client_of (command.Go turns) = None
@@ -76,20 +81,29 @@ abbrev pub is_stop : Client → Bool
 is_stop (client.Stop by) = true
 is_stop t = false
 
--- whether a member does a task at once: one that waits for its state leaves all but its stop
+-- whether a member begins with a task in its next turn: one that waits for its state leaves all but its stop
 abbrev pub takes_up : Phase → Client → Bool
 takes_up Waiting t = is_stop t
 takes_up Up t = true
 takes_up Stopped t = true
 
--- whether it has something on its agenda that it does at once
+-- whether it begins with what is next on its agenda
 abbrev pub is_due : Phase → List Client → Bool
 is_due phase [] = false
 is_due phase (t ∷ ts) = takes_up phase t
 
--- the member at a place, which has this name, has something to do at once
+-- the member at a place, which has this name, has something on its agenda with which it begins
 abbrev pub IsDue : Seen → ℕ → List ℕ → Type 0
 IsDue c i name = is_due (member_at (state_of c) (i + 1)).phase (agenda_of c name) ≡ true
+
+-- whether a refusal passes: the member waits for its state, or hasn't started as a master yet
+abbrev pub passes : Option Reason → Bool
+passes None = false
+passes (Some r) = is_passing r
+
+-- the member of that name leaves its agenda as it is: there is nothing on it, or what refuses the first task will pass
+abbrev pub LeavesAgenda : Seen → List ℕ → Type 0
+LeavesAgenda c name = (t : Client) (ts : List Client) → agenda_of c name ≡ t ∷ ts → IsAskedOf name t × (passes (refusal (state_of c) (event_of t)) ≡ true)
 
 -- ---- commands
 
@@ -127,11 +141,11 @@ pub record HaveServed (w : World) (events : List Event) (commands : List Command
   pub members : (i : ℕ) (name : List ℕ) → IsMemberIn (last w events) i name → Serves w name events commands []
   pub nobody_else : (name : List ℕ) → ((i : ℕ) → IsMemberIn (last w events) i name → ⊥) → client_events name events ≡ []
 
--- the members had done so with these commands, and the ring rested, after some of the events
+-- the members had done so with these commands, and the ring was quiet, after some of the events
 pub record HasSettled (credit : CreditSpec) (names : List (List ℕ)) (events : List Event) (commands : List Command) : Type 0 where
   pub count : ℕ
   pub within : count ≤ length events
-  pub quiet : RingRests (state credit names (take count events))
+  pub quiet : IsQuiet (state credit names (take count events))
   pub served : HaveServed (opening credit names) (take count events) commands
 
 -- at each settling they had, with all earlier commands
@@ -173,13 +187,31 @@ performed c name e ts = record c { events = c.events ++ e ∷ []; agendas = with
 abbrev pub SameGiven : Seen → Seen → Type 0
 SameGiven c d = (d.given ≡ c.given) × (d.rounds ≡ c.rounds)
 
--- the member at a place, which has this name, has begun with its agenda, where it had something to do at once
-abbrev pub HasBegun : ℕ → List ℕ → Seen → Seen → Type 0
-HasBegun i name c d = IsDue c i name → length (client_events name c.events) < length (client_events name d.events)
+-- whether an event is a start as a master
+abbrev pub is_start : Event → Bool
+is_start (Start by) = true
+is_start e = false
 
--- of each member that had something to do at once these events have done or refused the head of its agenda
+-- that of the member of this name
+abbrev pub is_start_of : List ℕ → Event → Bool
+is_start_of name e = is_start e && bytes_eq (by_of e) name
+
+-- how a member begins: it starts as a master, or does or refuses what a client asked for
+abbrev pub begun_with : List ℕ → Event → List Event
+begun_with name e = if is_start_of name e then e ∷ [] else client_event name e
+
+-- by these events
+abbrev pub begun_by : List ℕ → List Event → List Event
+begun_by name events = flat_map (begun_with name) events
+
+-- the member at a place, which has this name, has begun, where it had something with which it begins
+abbrev pub HasBegun : ℕ → List ℕ → Seen → Seen → Type 0
+HasBegun i name c d = IsDue c i name → length (begun_by name c.events) < length (begun_by name d.events)
+
+-- of each member that had something with which it begins these events have done or refused the head of its agenda, or the member has
+-- started as a master
 abbrev pub HeadsAre : Seen → List Event → Type 0
-HeadsAre c more = (i : ℕ) (name : List ℕ) (t : Client) (ts : List Client) → IsMemberIn (state_of c) i name → agenda_of c name ≡ t ∷ ts → IsDue c i name → Contains (client_events name more) (event_of t)
+HeadsAre c more = (i : ℕ) (name : List ℕ) (t : Client) (ts : List Client) → IsMemberIn (state_of c) i name → agenda_of c name ≡ t ∷ ts → IsDue c i name → Contains (client_events name more) (event_of t) ⊎ (list_any (is_start_of name) more ≡ true)
 
 -- no member has anything left to do that it was asked
 abbrev pub AgendasAreEmpty : Seen → Type 0

@@ -1,13 +1,12 @@
 -- What is seen of a cluster.
 use Rattle.std.specs.Prelude.{◌≡◌, ℕ, ◌+◌, ◌-◌, ◌<◌, ◌^◌, ◌++◌, ◌∷◌, Bool, true, false, List, [], length, map, take, slice_index_or, min}
-use Rattle.std.specs.List.{list_all}
 use Rattle.ring_names.specs.declared.numbers.CreditSpec.{CreditSpec}
 use Rattle.ring_script.specs.declared.command.Command.{Command}
 use Rattle.group_view.specs.Change.{AreOpeningNames}
 use Rattle.ring_rules.specs.declared.event.Event.{Event}
 use Rattle.ring_rules.specs.Machine.{World, member_at}
 use Rattle.ring_rules.specs.Step.{size, opening}
-use Rattle.ring_rules.specs.Event.{IsRun, by_of, is_multicast}
+use Rattle.ring_rules.specs.Event.{IsRun}
 use Rattle.gm_member.specs.Stands.{door_links}
 use Rattle.ring_cluster.specs.Agendas.{Plan}
 use Rattle.ring_parties.specs.Parties.{Shown, Parties}
@@ -16,10 +15,6 @@ use Rattle.ring_parties.specs.States.{state}
 -- the member at this place of a state has this name
 abbrev pub IsMemberIn : World → ℕ → List ℕ → Type 0
 IsMemberIn w i name = (i + 1 < size w) × ((member_at w (i + 1)).name ≡ name)
-
--- it is an event of the member at this place of a state, and of the ring alone
-abbrev pub IsMulticastIn : World → ℕ → Event → Type 0
-IsMulticastIn w i e = (i + 1 < size w) × (by_of e ≡ (member_at w (i + 1)).name) × (is_multicast e ≡ true)
 
 -- A cluster is seen as the names and the credit with which its ring opened, its journal, what each member has
 -- still to do, how many rounds were given a number, what it was given: the commands that it took
@@ -52,13 +47,11 @@ collected_by q = map (λ (m : Shown). length m.held.door) q.nodes
 abbrev pub opening_seen : CreditSpec → List (List ℕ) → Seen
 opening_seen credit names = record { credit = credit; names = names; events = []; agendas = []; rounds = 0; given = []; owes = false; collected = map (λ _. 0) names }
 
--- what every cluster keeps of this: its journal is a run of the ring of fewer than 2^59 events, none of which is of the queue, and
--- the count of rounds is a u32
+-- what every cluster keeps of this: its journal is a run of the ring of fewer than 2^59 events, and the count of rounds is a u32
 pub record IsGoing (c : Seen) : Type 0 where
   pub are : AreOpeningNames c.names
   pub run : IsRun (opening c.credit c.names) c.events
   pub few : length c.events < 2 ^ 59
-  pub multicast : list_all is_multicast c.events ≡ true
   pub rounds : c.rounds < 2 ^ 32
 
 -- c, but that it owes a link or nothing

@@ -1,9 +1,9 @@
 -- The turns of a cluster.
-use Rattle.std.specs.Prelude.{◌≡◌, ◌≢◌, ℕ, ◌+◌, ◌<◌, ◌≤◌, Bool, true, false, List, ◌++◌, length, bytes_eq, None, Result, IfOk}
+use Rattle.std.specs.Prelude.{◌≡◌, ◌≢◌, ℕ, ◌+◌, ◌<◌, ◌≤◌, Bool, true, false, List, ◌++◌, length, bytes_eq, Some, None, Result, IfOk}
 use Rattle.std.specs.List.{All, filter}
 use Rattle.ring_names.specs.declared.memory.OutOfMemory.{OutOfMemory}
 use Rattle.ring_rules.specs.declared.event.Event.{Event}
-use Rattle.ring_rules.specs.declared.event.Event.TheVariants.{Mark, Refresh, Erase}
+use Rattle.ring_rules.specs.declared.event.Event.TheVariants.{Mark, Refresh, Erase, Start, Synced, Depth}
 use Rattle.ring_rules.specs.declared.phase.Phase.TheVariants.{Waiting, Up}
 use Rattle.ring_rules.specs.Machine.{World, member_at, newest, right, runs}
 use Rattle.ring_rules.specs.Step.{size}
@@ -11,9 +11,10 @@ use Rattle.ring_rules.specs.Event.{by_of, erase_refusal, refusal}
 use Rattle.ring_rules.specs.declared.kind.LinkStep.{LinkStep}
 use Rattle.ring_cluster.specs.declared.driver.OwnTurn.{OwnTurn}
 use Rattle.ring_cluster.specs.declared.driver.OwnTurn.TheVariants as turn
-use Rattle.ring_cluster.specs.Seen.{Seen, state_of, IsMemberIn, SameButOwed}
+use Rattle.ring_cluster.specs.Seen.{Seen, state_of, IsMemberIn, SameButOwed, with_event}
 use Rattle.ring_rules.specs.Work.{is_stale, total}
-use Rattle.ring_cluster.specs.Plays.{HasGoneOn, SameGiven, IsDue}
+use Rattle.ring_rules.specs.Settling.{owes_telling}
+use Rattle.ring_cluster.specs.Plays.{HasGoneOn, SameGiven, LeavesAgenda}
 use Rattle.ring_cluster.specs.Backlog.{backlog_of}
 use Rattle.ring_rules.specs.Kind.{step_event}
 
@@ -55,9 +56,9 @@ pub record FinishesOrRests (c d : Seen) (rests : Type 0) (result : Result Bool O
   pub falls : IfOk result (λ b. b ≡ true → backlog_of d < backlog_of c)
   pub stays : IfOk result (λ b. b ≡ false → SameButOwed c d × rests)
 
--- no member has anything on its agenda that it does at once
-abbrev pub NothingIsDue : Seen → Type 0
-NothingIsDue c = (i : ℕ) (name : List ℕ) → IsMemberAt c i name → IsDue c i name → ⊥
+-- every member leaves its agenda as it is: what refuses the first task will pass
+abbrev pub AllLeaveAgendas : Seen → Type 0
+AllLeaveAgendas c = (i : ℕ) (name : List ℕ) → IsMemberAt c i name → LeavesAgenda c name
 
 -- at most so many events have happened since, each of the member of that name
 abbrev pub DoesAtMost : ℕ → List ℕ → Seen → Seen → Type 0
@@ -87,24 +88,48 @@ MarksNoneAt w y = refusal w (Mark (member_at w y).name (member_at w (right w (ne
 abbrev pub ErasesNoneAt : World → ℕ → Type 0
 ErasesNoneAt w y = (p : ℕ) → p < size w → erase_refusal w y p ≢ None
 
--- it isn't stale, and has nobody to have marked or erased
-abbrev pub RepairsNothing : World → ℕ → Type 0
-RepairsNothing w y = (is_stale (newest w) (member_at w y) ≡ false) × MarksNoneAt w y × ErasesNoneAt w y
+-- it has no start to publish as a master
+abbrev pub StartsNot : World → ℕ → Type 0
+StartsNot w y = refusal w (Start (member_at w y).name) ≢ None
 
--- where it runs, it may do no step; and where it is up, it has nothing to repair
+-- It isn't stale, and has nobody to have marked or erased; it can't be registered as synchronised; and where its view has entries that
+-- it hasn't told how many messages there are, it can't tell them.
+pub record RepairsNothing (w : World) (y : ℕ) : Type 0 where
+  pub fresh : is_stale (newest w) (member_at w y) ≡ false
+  pub marks : MarksNoneAt w y
+  pub erases : ErasesNoneAt w y
+  pub synced : refusal w (Synced (member_at w y).name) ≢ None
+  pub tells : owes_telling w (Some y) ≡ true → refusal w (Depth (member_at w y).name) ≢ None
+
+-- where it runs, it may do no step; and where it is up, it has no start to publish, and nothing to repair
 abbrev pub RestsAt : World → ℕ → Type 0
-RestsAt w y = runs w y ≡ true → MayStepNowhere w y × ((member_at w y).phase ≡ Up → RepairsNothing w y)
+RestsAt w y = runs w y ≡ true → MayStepNowhere w y × ((member_at w y).phase ≡ Up → StartsNot w y × RepairsNothing w y)
+
+-- each member does
+abbrev pub AllRest : World → Type 0
+AllRest w = (i : ℕ) → i + 1 < size w → RestsAt w (i + 1)
 
 -- the event of what member y has to do by itself
 abbrev pub turn_event : World → ℕ → OwnTurn → Event
+turn_event w y turn.Start = Start (member_at w y).name
 turn_event w y turn.Refresh = Refresh (member_at w y).name (newest w)
 turn_event w y turn.Mark = Mark (member_at w y).name (member_at w (right w (newest w) y)).name
 turn_event w y (turn.Erase origin) = Erase (member_at w y).name (member_at w origin.0).name
+turn_event w y turn.Register = Synced (member_at w y).name
+turn_event w y turn.Tell = Depth (member_at w y).name
 turn_event w y (turn.Step s) = step_event s (member_at w y).name
 
--- it has that to do: it is up and stale, or may have its right neighbour marked, or that one erased, or may do that step
+-- it has that to do: it is up and stale, or may publish its start, have its right neighbour marked, or that one erased, or be registered,
+-- or may tell whom it hasn't told, or may do that step
 abbrev pub HasTurn : World → ℕ → OwnTurn → Type 0
+HasTurn w y turn.Start = refusal w (turn_event w y turn.Start) ≡ None
 HasTurn w y turn.Refresh = ((member_at w y).phase ≡ Up) × (is_stale (newest w) (member_at w y) ≡ true)
 HasTurn w y turn.Mark = refusal w (turn_event w y turn.Mark) ≡ None
 HasTurn w y (turn.Erase origin) = (1 ≤ origin.0) × (origin.0 < size w) × (refusal w (turn_event w y (turn.Erase origin)) ≡ None)
+HasTurn w y turn.Register = refusal w (turn_event w y turn.Register) ≡ None
+HasTurn w y turn.Tell = (owes_telling w (Some y) ≡ true) × (refusal w (turn_event w y turn.Tell) ≡ None)
 HasTurn w y (turn.Step s) = MayStep w y s
+
+-- where member y is up, and has its start to publish, that has happened
+abbrev pub StartsFirst : ℕ → Seen → Seen → Type 0
+StartsFirst y c d = (member_at (state_of c) y).phase ≡ Up → HasTurn (state_of c) y turn.Start → SameButOwed (with_event c (turn_event (state_of c) y turn.Start)) d

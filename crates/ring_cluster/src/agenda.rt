@@ -1,9 +1,9 @@
 //! What each member has still to do.
-ghost use Rattle.std.specs.Prelude.{◌≡◌, ◌+◌, ◌<◌, ◌∷◌, ◌++◌, [], List, true, drop, length, is_some, MatchOption};
+ghost use Rattle.std.specs.Prelude.{◌≡◌, ◌+◌, ◌<◌, ◌∷◌, ◌++◌, [], List, drop, length, is_some, MatchOption};
 ghost use Rattle.std.specs.Prelude.{IfSome, OnOk, OnErr, bytes_eq, nat_lt, position};
 ghost use Rattle.std.specs.List.{All};
 ghost use Rattle.ring_rules.specs.declared.event.Client.{Client};
-ghost use Rattle.ring_rules.specs.Event.{asked_of, is_asked_multicast};
+ghost use Rattle.ring_rules.specs.Event.{asked_of};
 ghost use Rattle.ring_cluster.specs.Agendas.{Plan, IsAskedOf, names_of, place_among, tasks_in, tasks_on_all};
 ghost use Rattle.ring_cluster.specs.Agendas.{with_tasks, with_task};
 
@@ -120,9 +120,9 @@ impl Model for Agendas {
 }
 
 impl Agendas {
-    ghost use Rattle.std.specs.Prelude.{◌≡◌, ◌∷◌, ◌++◌, [], List, true, MatchOption, IfSome, OnOk, OnErr, drop, is_some};
+    ghost use Rattle.std.specs.Prelude.{◌≡◌, ◌∷◌, ◌++◌, [], List, MatchOption, IfSome, OnOk, OnErr, drop, is_some};
     ghost use Rattle.ring_rules.specs.declared.event.Client.{Client};
-    ghost use Rattle.ring_rules.specs.Event.{asked_of, is_asked_multicast};
+    ghost use Rattle.ring_rules.specs.Event.{asked_of};
     ghost use Rattle.ring_cluster.specs.Agendas.{Plan, IsAskedOf, names_of, place_among, tasks_in, with_tasks, with_task};
 
     /// Nobody has an agenda.
@@ -165,7 +165,6 @@ impl Agendas {
 
     /// A task joins the end of the agenda of its member, or begins one. Without memory for that nothing changes.
     pub(crate) fn give(&mut self, alloc: Global, task: Client) -> Result<(), OutOfMemory>
-        requires { is_asked_multicast task ≡ true }
         ensures ok { OnOk result (self.new ≡ with_task self.old task) }
         ensures err { OnErr result (self.new ≡ self.old) }
     {
@@ -227,7 +226,6 @@ fn has_agenda(agendas: &[Agenda], name: &Name) -> bool
 
 /// A task joins the end of the agenda of its member, or begins one. Without memory for that nothing changes.
 fn give_task(alloc: Global, agendas: &mut Vec<Agenda>, task: Client) -> Result<(), OutOfMemory>
-    requires { is_asked_multicast task ≡ true }
     ensures ok { OnOk result (agendas.new.items ≡ with_task agendas.old.items task) }
     ensures err { OnErr result (agendas.new.items ≡ agendas.old.items) }
 {
@@ -239,7 +237,6 @@ fn give_task(alloc: Global, agendas: &mut Vec<Agenda>, task: Client) -> Result<(
 
 /// A task begins an agenda.
 fn begin(alloc: Global, agendas: &mut Vec<Agenda>, task: Client) -> Result<(), OutOfMemory>
-    requires { is_asked_multicast task ≡ true }
     ensures ok { OnOk result (agendas.new.items
         ≡ agendas.old.items ++ record { name = asked_of task; tasks = task ∷ [] } ∷ []) }
     ensures err { OnErr result (agendas.new.items ≡ agendas.old.items) }

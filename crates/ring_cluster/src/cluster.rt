@@ -2,10 +2,11 @@
 ghost use Rattle.std.specs.Prelude.{◌≡◌, ℕ, ◌<◌, ◌∷◌, ◌++◌, [], List, IfOk, vec_len, vec_capacity};
 
 use crate::agenda::Agendas;
-use crate::clients::{client_of, is_stop, refusal_of};
+use crate::clients::{client_of, refuses};
 use crate::driver::{drain, round};
 use crate::numbering::Rounds;
-use crate::published::casts_of;
+use crate::published::told_of;
+use confirm_book::Book;
 use group_view::View;
 use queue_mirror::Mirror;
 use ring_io::Gate;
@@ -62,23 +63,25 @@ impl Cluster {
     ghost use Rattle.ring_rules.specs.declared.event.Event.TheVariants as event;
     ghost use Rattle.ring_rules.specs.Machine.{member_at, row_at, view_in, newest, runs};
     ghost use Rattle.ring_rules.specs.Step.{size};
-    ghost use Rattle.ring_rules.specs.Quiet.{RingRests};
+    ghost use Rattle.ring_rules.specs.Quiet.{IsQuiet};
     ghost use Rattle.ring_rules.specs.Refusal.{is_empty};
-    ghost use Rattle.ring_rules.specs.Event.{asked_of, is_asked_multicast, is_multicast, refusal};
+    ghost use Rattle.ring_rules.specs.Event.{asked_of, event_of, refusal};
     ghost use Rattle.gm_member.specs.Stands.{held_in, incoming_in};
     ghost use Rattle.gm_member.specs.Shown.{held_of, ends_of};
-    ghost use Rattle.ring_rules.specs.Idle.{NobodySteps, MarksNobody, ErasesNobody};
+    ghost use Rattle.ring_rules.specs.Idle.{IsIdle};
     ghost use Rattle.ring_cluster.specs.Holds.{HoldsOf, ShowsOf};
+    ghost use Rattle.confirm_book.specs.Book.{IsBookOf};
     ghost use Rattle.ring_parties.specs.Parties.{ends_seen};
-    ghost use Rattle.ring_cluster.specs.Published.{logs_in, logs_of};
+    ghost use Rattle.ring_parties.specs.Keeps.{kinds_of, round_of};
+    ghost use Rattle.ring_parties.specs.States.{IsEventIn};
+    ghost use Rattle.ring_cluster.specs.Published.{told_in, told_of_each};
     ghost use Rattle.ring_cluster.specs.Seen.{IsGoing, SameButOwed, MayHandOver, state_of};
-    ghost use Rattle.ring_cluster.specs.Seen.{IsMulticastIn};
     ghost use Rattle.ring_cluster.specs.Seen.{IsStepped, opening_seen, with_event, owing, collected_at};
     ghost use Rattle.ring_rules.specs.declared.event.Client.{Client};
-    ghost use Rattle.ring_cluster.specs.Plays.{PlaysSoFar, Plays, IsOfMember, commanded, takes_up as is_taken_up};
+    ghost use Rattle.ring_cluster.specs.Plays.{PlaysSoFar, Plays, IsOfMember, commanded, passes};
     ghost use Rattle.ring_cluster.specs.Agendas.{Plan, IsAskedOf, names_of, place_among, with_tasks, with_task, with_asked};
     ghost use Rattle.ring_cluster.specs.Plays.{performed, answer_to, agenda_of, GoesOn, HasGoneOn};
-    ghost use Rattle.ring_cluster.specs.Plays.{HasBegun, HeadsAre, IsDue, AgendasAreEmpty};
+    ghost use Rattle.ring_cluster.specs.Plays.{HasBegun, HeadsAre, LeavesAgenda, AgendasAreEmpty};
     ghost use Rattle.ring_cluster.specs.Handed.{handing as is_handed, heir as the_heir};
     ghost use Rattle.ring_cluster.specs.Turns.{MayStep, TakesRound, EachDoesAtMost, IsMemberAt};
     ghost use Rattle.ring_cluster.specs.Rounds.{more_rounds, GivesNumbers};
@@ -117,7 +120,7 @@ impl Cluster {
         })
     }
 
-    /// A law of every cluster: its journal is a run of the ring from its opening, without an event of the queue.
+    /// A law of every cluster: its journal is a run of the ring from its opening.
     pub fn is_going(&self)
         ensures { IsGoing self.now }
     {
@@ -162,9 +165,7 @@ impl Cluster {
     /// event that isn't refused the acting member collects the links that wait for it, and what is owed is handed over.
     /// For want of memory no event happens, though some of that may have been done; or the event has happened, and the
     /// cluster owes the registrar a link. A member that is admitted is there at once, since it was got ready before.
-    /// The caller gives no event of the queue, of which the driver plays none yet.
     pub fn step(&mut self, event: &Event) -> Result<(), Refused>
-        requires multicast { is_multicast event.now ≡ true }
         ensures enabled { OnOk result (refusal (state_of self.old) event.now ≡ None) }
         ensures ok { OnOk result (IsStepped self.old event.now false self.new) }
         ensures refused { (r : Reason) → refusal (state_of self.old) event.now ≡ Some r
@@ -188,9 +189,8 @@ impl Cluster {
 
     /// The place of the member of an event, where the ring has it.
     fn place_of(&self, event: &Event) -> Option<usize>
-        requires { is_multicast event.now ≡ true }
         ensures { MatchOption result (refusal (state_of self.now) event.now ≡ Some Reason.UnknownMember)
-            (λ place. IsMulticastIn (state_of self.now) place event.now) }
+            (λ place. IsEventIn (state_of self.now) place event.now) }
     {
         self.is_going();
         self.parties.place_named(event.by())
@@ -198,7 +198,7 @@ impl Cluster {
 
     /// The one event, of the member at a place, as a part of a round.
     pub(crate) fn happen(&mut self, place: usize, event: &Event) -> Result<(), Refused>
-        requires { IsMulticastIn (state_of self.old) place event.now }
+        requires { IsEventIn (state_of self.old) place event.now }
         ensures enabled { OnOk result (refusal (state_of self.old) event.now ≡ None) }
         ensures ok { OnOk result (SameButOwed (with_event self.old event.now) self.new) }
         ensures refused { (r : Reason) → refusal (state_of self.old) event.now ≡ Some r
@@ -259,7 +259,7 @@ impl Cluster {
     }
 
     /// The member at a place, which has this name, does the first of its tasks, or refuses it where the ring does:
-    /// whether it had one that it does at once. A join that it refuses since it has stopped is handed on.
+    /// whether it had one, and what refuses that doesn't pass. A join that it refuses since it has stopped is handed on.
     #[tactic(auto, using(crate::proofs::deposits::Owed::but_refl, crate::proofs::deposits::Owed::but_handed))]
     pub(crate) fn perform(&mut self, place: usize, name: &Name) -> Result<bool, OutOfMemory>
         requires { IsMemberAt self.old place name.now }
@@ -268,7 +268,7 @@ impl Cluster {
             × (refusal (state_of self.old) (answer_to (state_of self.old) t) ≡ None)
             × SameButOwed (performed self.old name.now (answer_to (state_of self.old) t) ts) self.new) }
         ensures none { IfOk result (λ b. b ≡ false → SameButOwed self.old self.new
-            × (IsDue self.old place name.now → ⊥)) }
+            × LeavesAgenda self.old name.now) }
         ensures err { OnErr result (SameButOwed self.old self.new) }
     {
         self.is_going();
@@ -282,7 +282,7 @@ impl Cluster {
 
     /// A member answers a client: this event happens, and what it hands on joins its agenda.
     fn answer(&mut self, place: usize, event: &Event) -> Result<(), OutOfMemory>
-        requires at { IsMulticastIn (state_of self.old) place event.now }
+        requires at { IsEventIn (state_of self.old) place event.now }
         requires enabled { refusal (state_of self.old) event.now ≡ None }
         ensures ok { OnOk result (SameButOwed (record (with_event self.old event.now) {
           agendas = with_asked (self.old).agendas (is_handed (state_of self.old) event.now);
@@ -308,7 +308,7 @@ impl Cluster {
     /// An event happens that is enabled.
     #[tactic(auto, using(crate::proofs::deposits::Owed::but_handed))]
     fn happen_enabled(&mut self, place: usize, event: &Event) -> Result<(), OutOfMemory>
-        requires at { IsMulticastIn (state_of self.old) place event.now }
+        requires at { IsEventIn (state_of self.old) place event.now }
         requires enabled { refusal (state_of self.old) event.now ≡ None }
         ensures ok { OnOk result (SameButOwed (with_event self.old event.now) self.new) }
         ensures err { OnErr result (SameButOwed self.old self.new) }
@@ -322,7 +322,6 @@ impl Cluster {
 
     /// A task joins the end of the agenda of its member.
     fn give(&mut self, task: Client) -> Result<(), OutOfMemory>
-        requires { is_asked_multicast task ≡ true }
         ensures ok { OnOk result (self.new ≡ record self.old { agendas = with_task (self.old).agendas task }) }
         ensures err { OnErr result (self.new ≡ self.old) }
     {
@@ -341,7 +340,6 @@ impl Cluster {
     /// The join that an event hands on, as it is asked of the heir.
     fn handing(&self, event: &Event) -> Option<Client>
         ensures handed { result ≡ is_handed (state_of self.now) event.now }
-        ensures multicast { IfSome result (λ task. is_asked_multicast task ≡ true) }
     {
         match event {
             Event::Refuse {
@@ -372,59 +370,39 @@ impl Cluster {
         None
     }
 
-    /// The event by which the member at a place does or refuses the first of its tasks, where it has one that it does
-    /// at once.
+    /// The event by which the member at a place does or refuses the first of its tasks, where it has one, and what refuses
+    /// that doesn't pass.
     fn next_event(&self, place: usize, name: &Name) -> Result<Option<Event>, OutOfMemory>
         requires { IsMemberAt self.now place name.now }
-        ensures { IfOk result (λ next. MatchOption next (IsDue self.now place name.now → ⊥)
+        ensures { IfOk result (λ next. MatchOption next (LeavesAgenda self.now name.now)
             (λ event. (t : Client) × (ts : List Client) × (agenda_of self.now name.now ≡ t ∷ ts) × IsAskedOf name.now t
             × (event ≡ answer_to (state_of self.now) t) × (refusal (state_of self.now) event ≡ None))) }
     {
         let Some(task) = self.agendas.next_task(name) else {
             return Ok(None);
         };
-        if !self.takes_up(place, task) {
-            return Ok(None);
-        }
-        let event = self.answer_to(place, task)?;
-        Ok(Some(event))
+        self.answer_to(place, task)
     }
 
-    /// Whether the member at a place does a task at once: one that waits leaves all but its stop.
-    fn takes_up(&self, place: usize, task: &Client) -> bool
-        requires { place + 1 < size (state_of self.now) }
-        ensures { result ≡ is_taken_up (member_at (state_of self.now) (place + 1)).phase task.now }
-    {
-        self.is_going();
-        let Some(member) = self.member(MemberId(place as u32 + 1)) else {
-            unreachable!()
-        };
-        match member.phase() {
-            Phase::Waiting => is_stop(task),
-            Phase::Up => true,
-            Phase::Stopped => true,
-        }
-    }
-
-    /// The event by which the member at a place, of which a task is asked that it takes up, does or refuses it.
-    fn answer_to(&self, place: usize, task: &Client) -> Result<Event, OutOfMemory>
-        requires at { IsMemberAt self.now place (asked_of task.now) }
-        requires multicast { is_asked_multicast task.now ≡ true }
-        requires takes { is_taken_up (member_at (state_of self.now) (place + 1)).phase task.now ≡ true }
-        ensures does { IfOk result (λ event. event ≡ answer_to (state_of self.now) task.now) }
-        ensures enabled { IfOk result (λ event. refusal (state_of self.now) event ≡ None) }
+    /// The event by which the member at a place, of which a task is asked, does or refuses it: none where what refuses it
+    /// will pass, as the member waits for its state, or hasn't started as a master.
+    fn answer_to(&self, place: usize, task: &Client) -> Result<Option<Event>, OutOfMemory>
+        requires { IsMemberAt self.now place (asked_of task.now) }
+        ensures { IfOk result (λ answer. MatchOption answer
+            (passes (refusal (state_of self.now) (event_of task.now)) ≡ true)
+            (λ event. (event ≡ answer_to (state_of self.now) task.now) × (refusal (state_of self.now) event ≡ None))) }
     {
         self.is_going();
         let event = task.event()?;
         match self.refusal(place, &event) {
-            None => Ok(event),
-            Some(reason) => refusal_of(task, reason),
+            None => Ok(Some(event)),
+            Some(reason) => refuses(task, reason),
         }
     }
 
     /// Why the ring refuses an event of the member at a place.
-    fn refusal(&self, place: usize, event: &Event) -> Option<Reason>
-        requires { IsMulticastIn (state_of self.now) place event.now }
+    pub(crate) fn refusal(&self, place: usize, event: &Event) -> Option<Reason>
+        requires { IsEventIn (state_of self.now) place event.now }
         ensures { result ≡ refusal (state_of self.now) event.now }
     {
         self.is_going();
@@ -473,6 +451,14 @@ impl Cluster {
         self.agendas.strike_off(name);
     }
 
+    /// The version that the view of the member of an id had when it last told how many messages there are.
+    pub(crate) fn told(&self, id: MemberId) -> u32
+        requires { (1 ≤ id.0) × (id.0 < size (state_of self.now)) }
+        ensures { result ≡ (member_at (state_of self.now) id.0).told }
+    {
+        self.parties.told(id)
+    }
+
     /// The name of the member at a place.
     pub(crate) fn name_at(&self, place: usize) -> Name
         requires { place + 1 < size (state_of self.now) }
@@ -501,9 +487,9 @@ impl Cluster {
     }
 
     /// One round: each member that runs or has a task takes at least one and at most so many turns, the first of which
-    /// does the head of its agenda, where it has one, or refuses it where the ring does. From there on its own work and
-    /// its agenda come first alternately, so that neither waits until the other is done. One that waits for its state
-    /// leaves its agenda, but stops at once where that is to be done next. A join that a member refuses since it has
+    /// does the head of its agenda, where it has one, or refuses it where the ring does; a new master begins with its
+    /// start. From there on its own work and its agenda come first alternately, so that neither waits until the other is
+    /// done. One that waits for its state leaves its agenda, but stops at once where that is to be done next. A join that a member refuses since it has
     /// stopped goes to the end of the agenda of the running member of least id. Who joins in a round takes turns from
     /// the next one on. After it nothing is owed. Before and after each turn the gate is passed. Want of memory leaves
     /// what has happened.
@@ -553,14 +539,14 @@ impl Cluster {
 
     /// Rounds of 16 turns until one does nothing, 64 at most, and then a drain: the ring works and repairs itself, and
     /// each member does all of its agenda, or refuses it, who joins too, until no member has anything left to do. Then
-    /// it rests: where anybody runs, nobody waits, and who has died is erased. Each round has a number, and so has
-    /// the drain. After it nothing is owed. Want of memory leaves what has happened.
+    /// it is quiet: where anybody runs, nobody waits, and who has died is erased; a running master has started, and
+    /// everybody knows what its mirror lacks. Each round has a number, and so has the drain. After it nothing is owed.
+    /// Want of memory leaves what has happened.
     pub fn settle<T: Threads, G: Gate>(&mut self, threads: &T, gate: &G) -> Result<(), OutOfMemory>
         ensures goes { HasGoneOn self.old self.new }
         ensures empty { OnOk result (AgendasAreEmpty self.new) }
-        ensures idle { OnOk result (NobodySteps (state_of self.new) × MarksNobody (state_of self.new)
-            × ErasesNobody (state_of self.new)) }
-        ensures quiet { OnOk result (RingRests (state_of self.new)) }
+        ensures idle { OnOk result (IsIdle (state_of self.new)) }
+        ensures quiet { OnOk result (IsQuiet (state_of self.new)) }
         ensures given { OnOk result ((self.new).given ≡ (self.old).given ++ command.Settle ∷ []) }
         ensures not_given { OnErr result ((self.new).given ≡ (self.old).given) }
         ensures rounds { OnOk result (GivesNumbers 2 65 self.old self.new) }
@@ -587,10 +573,8 @@ impl Cluster {
         ensures goes { HasGoneOn self.old self.new }
         ensures given { (self.new).given ≡ (self.old).given }
         ensures empty { OnOk result (AgendasAreEmpty self.new) }
-        ensures idle { OnOk result (NobodySteps (state_of self.new)) }
-        ensures marks { OnOk result (MarksNobody (state_of self.new)) }
-        ensures erases { OnOk result (ErasesNobody (state_of self.new)) }
-        ensures quiet { OnOk result (RingRests (state_of self.new)) }
+        ensures idle { OnOk result (IsIdle (state_of self.new)) }
+        ensures quiet { OnOk result (IsQuiet (state_of self.new)) }
         ensures rounds { OnOk result (GivesNumbers 2 65 self.old self.new) }
         ensures rounds_begun { OnErr result (GivesNumbers 1 65 self.old self.new) }
         ensures delivered { OnOk result ((self.new).owes ≡ false) }
@@ -674,6 +658,16 @@ impl Cluster {
         self.parties.mirror(id)
     }
 
+    /// The book of the member of that id: of how many of its messages, by kind, it may tell its clients that they are
+    /// confirmed. None exactly where the ring has no such member.
+    pub fn book(&self, id: MemberId) -> Option<&Book>
+        ensures there { IsSome result ↔ ((1 ≤ id.0) × (id.0 < size (state_of self.now))) }
+        ensures stands { IfSome result (λ b. IsBookOf (kinds_of (state_of self.now) id.0)
+            (round_of (state_of self.now) id.0) b.now) }
+    {
+        self.parties.book(id)
+    }
+
     /// The newest view of the group, as the registrar has it.
     pub fn view(&self) -> &View
         ensures { result.now ≡ view_in (state_of self.now) (newest (state_of self.now)) }
@@ -730,14 +724,14 @@ impl Cluster {
         &self.journal
     }
 
-    /// Of each member, by places, the bodies of its messages in order. They are lent from the journal, which is read
-    /// once.
-    pub fn published(&self) -> Result<Vec<Vec<&Body>>, OutOfMemory>
-        ensures { IfOk result (λ all. logs_in all.items ≡ logs_of (state_of self.now)) }
+    /// Of each member, by places, what its messages tell, in order: the body of each of its own, and nothing of an
+    /// operation of its queue. The bodies are lent from the journal, which is read once.
+    pub fn published(&self) -> Result<Vec<Vec<Option<&Body>>>, OutOfMemory>
+        ensures { IfOk result (λ all. told_in all.items ≡ told_of_each (state_of self.now)) }
     {
         self.is_going();
         let names = self.parties.names(self.alloc)?;
-        let all = casts_of(self.alloc, &names, self.events())?;
+        let all = told_of(self.alloc, &names, self.events())?;
         Ok(all)
     }
 

@@ -1,19 +1,21 @@
 //! The turns of the members: rounds, and the drain that ends when nothing is left to do.
 ghost use Rattle.std.specs.Prelude.{◌≡◌, ◌≢◌, ℕ, List, ◌+◌, ◌-◌, ◌<◌, ◌≤◌, ◌∷◌, ◌++◌, ◌||◌, true, false, not};
-ghost use Rattle.std.specs.Prelude.{OnOk, MatchOption, None, Contains};
+ghost use Rattle.std.specs.Prelude.{OnOk, IfOk, MatchOption, Some, None, Contains};
+ghost use Rattle.std.specs.List.{list_any};
 ghost use Rattle.ring_rules.specs.Machine.{member_at, view_in, newest as the_newest, right as the_right};
 ghost use Rattle.ring_rules.specs.Machine.{runs as runs_at};
 ghost use Rattle.ring_rules.specs.Step.{size};
 ghost use Rattle.ring_rules.specs.Refusal.{is_empty};
-ghost use Rattle.ring_rules.specs.Event.{by_of, refusal, erase_refusal, is_asked, is_multicast};
-ghost use Rattle.ring_rules.specs.Idle.{NobodySteps, MarksNobody, ErasesNobody};
-ghost use Rattle.ring_rules.specs.Work.{total, is_stale as the_staleness, LeavesLess};
-ghost use Rattle.ring_cluster.specs.Seen.{state_of};
+ghost use Rattle.ring_rules.specs.declared.event.Event.TheVariants as event;
+ghost use Rattle.ring_rules.specs.Event.{by_of, refusal, erase_refusal, is_asked};
+ghost use Rattle.ring_rules.specs.Settling.{owes_telling};
+ghost use Rattle.ring_rules.specs.Work.{total, is_stale as the_staleness, is_untold as the_untold, LeavesLess};
+ghost use Rattle.ring_cluster.specs.Seen.{state_of, SameButOwed, with_event};
 ghost use Rattle.ring_cluster.specs.Plays.{agenda_of, HasBegun, AgendasAreEmpty};
 ghost use Rattle.ring_cluster.specs.Turns.{Works, DoesOrRests, TakesRound, IsMemberAt};
 ghost use Rattle.ring_cluster.specs.Turns.{MayStep, MayStepNowhere, MarksNoneAt, ErasesNoneAt, RestsAt, DoesAtMost};
 ghost use Rattle.ring_cluster.specs.Turns.{EachDoesAtMost, HasTurn, turn_event, RepairsNothing};
-ghost use Rattle.ring_cluster.specs.Turns.{FinishesOrRests, NothingIsDue};
+ghost use Rattle.ring_cluster.specs.Turns.{FinishesOrRests, AllLeaveAgendas, AllRest, StartsNot, StartsFirst};
 
 use crate::cluster::Cluster;
 use group_view::{Entry, Mark};
@@ -24,12 +26,18 @@ use ring_rules::{Event, LinkStep, Phase, Refused};
 /// What a member has to do by itself.
 #[derive(Clone, Copy, PartialEq, Eq, Debug)]
 pub(crate) enum OwnTurn {
+    /// It starts as a master.
+    Start,
     /// It reads the newest view.
     Refresh,
     /// It has its right neighbour in that view marked dead.
     Mark,
     /// It has that one erased.
     Erase(MemberId),
+    /// It has itself registered as synchronised.
+    Register,
+    /// It tells how many messages its queue has, as a master.
+    Tell,
     /// It does a step on its links.
     Step(LinkStep),
 }
@@ -68,10 +76,10 @@ fn happens(cluster: &mut Cluster, id: MemberId, event: &Event) -> Result<bool, O
     requires within { (1 ≤ id.0) × (id.0 < size (state_of cluster.old)) }
     requires named { by_of event.now ≡ (member_at (state_of cluster.old) id.0).name }
     requires own { is_asked event.now ≡ false }
-    requires multicast { is_multicast event.now ≡ true }
     requires less { LeavesLess (state_of cluster.old) event.now }
     ensures does { DoesOrRests cluster.old cluster.new (refusal (state_of cluster.old) event.now ≢ None) result }
     ensures once { DoesAtMost 1 (member_at (state_of cluster.old) id.0).name cluster.old cluster.new }
+    ensures done { IfOk result (λ b. b ≡ true → SameButOwed (with_event cluster.old event.now) cluster.new) }
 {
     cluster.is_going();
     match cluster.happen(id.0 as usize - 1, event) {
@@ -190,6 +198,82 @@ fn may_erase(cluster: &Cluster, id: MemberId, entry: &Entry) -> bool
     }
 }
 
+/// Whether an event of the member of an id may happen.
+fn may_do(cluster: &Cluster, id: MemberId, event: &Event) -> bool
+    requires within { (1 ≤ id.0) × (id.0 < size (state_of cluster.now)) }
+    requires named { by_of event.now ≡ (member_at (state_of cluster.now) id.0).name }
+    ensures may { result ≡ true → refusal (state_of cluster.now) event.now ≡ None }
+    ensures may_not { result ≡ false → refusal (state_of cluster.now) event.now ≢ None }
+{
+    cluster.is_going();
+    let refusal = cluster.refusal(id.0 as usize - 1, event);
+    refusal.is_none()
+}
+
+/// Whether a member has its start to publish, as a new master.
+fn may_start(cluster: &Cluster, id: MemberId) -> bool
+    requires { (1 ≤ id.0) × (id.0 < size (state_of cluster.now)) }
+    ensures may { result ≡ true → HasTurn (state_of cluster.now) id.0 OwnTurn.Start }
+    ensures may_not { result ≡ false → StartsNot (state_of cluster.now) id.0 }
+{
+    let by = name_of(cluster, id);
+    may_do(cluster, id, &Event::Start { by })
+}
+
+/// Whether it may be registered as synchronised.
+fn may_register(cluster: &Cluster, id: MemberId) -> bool
+    requires { (1 ≤ id.0) × (id.0 < size (state_of cluster.now)) }
+    ensures may { result ≡ true → HasTurn (state_of cluster.now) id.0 OwnTurn.Register }
+    ensures may_not { result ≡ false
+        → refusal (state_of cluster.now) (event.Synced (member_at (state_of cluster.now) id.0).name) ≢ None }
+{
+    let by = name_of(cluster, id);
+    may_do(cluster, id, &Event::Synced { by })
+}
+
+/// Whether a member that has told how many messages its queue has with a view of the version `told`, and whose view is of
+/// the version `version` now, has that to tell to the one of an entry.
+fn is_untold(version: u32, told: u32, entry: &Entry) -> bool
+    ensures { result ≡ the_untold version told entry.now }
+{
+    let is_live = matches!(entry.mark, Mark::Live);
+    is_live && !entry.synced && told < entry.joined && told < version
+}
+
+/// Whether it has that to tell to any of these.
+fn any_untold(version: u32, told: u32, entries: &[Entry]) -> bool
+    ensures { result ≡ list_any (the_untold version told) entries.now }
+{
+    entries.iter().any(|entry| is_untold(version, told, entry))
+}
+
+/// Whether a member has it to tell to any of those that its view has.
+fn has_untold(cluster: &Cluster, id: MemberId) -> bool
+    requires { (1 ≤ id.0) × (id.0 < size (state_of cluster.now)) }
+    ensures { result ≡ owes_telling (state_of cluster.now) (Some id.0) }
+{
+    cluster.is_going();
+    let Some(member) = cluster.member(id) else {
+        unreachable!()
+    };
+    let view = member.view();
+    any_untold(view.version, cluster.told(id), view.entries.as_slice())
+}
+
+/// Whether a member may tell it as a master, and has somebody to tell.
+fn may_tell(cluster: &Cluster, id: MemberId) -> bool
+    requires { (1 ≤ id.0) × (id.0 < size (state_of cluster.now)) }
+    ensures may { result ≡ true → HasTurn (state_of cluster.now) id.0 OwnTurn.Tell }
+    ensures may_not { result ≡ false → owes_telling (state_of cluster.now) (Some id.0) ≡ true
+        → refusal (state_of cluster.now) (event.Depth (member_at (state_of cluster.now) id.0).name) ≢ None }
+{
+    if !has_untold(cluster, id) {
+        return false;
+    }
+    let by = name_of(cluster, id);
+    may_do(cluster, id, &Event::Depth { by })
+}
+
 /// The first step on its links that a member may do.
 fn next_step(cluster: &Cluster, id: MemberId) -> Option<LinkStep>
     requires { (1 ≤ id.0) × (id.0 < size (state_of cluster.now)) }
@@ -215,7 +299,8 @@ fn next_step(cluster: &Cluster, id: MemberId) -> Option<LinkStep>
 }
 
 /// What a member that is up has to repair: where it is stale, it reads the newest view; else it has its right
-/// neighbour marked dead, or somebody erased, the first of these that it may. This only reads.
+/// neighbour marked dead, or somebody erased, or itself registered as synchronised, or tells as a master how many messages
+/// there are, the first of these that it may. This only reads.
 fn next_repair(cluster: &Cluster, id: MemberId) -> Option<OwnTurn>
     requires within { (1 ≤ id.0) × (id.0 < size (state_of cluster.now)) }
     requires up { (member_at (state_of cluster.now) id.0).phase ≡ Phase.Up }
@@ -227,17 +312,31 @@ fn next_repair(cluster: &Cluster, id: MemberId) -> Option<OwnTurn>
     if may_mark(cluster, id) {
         return Some(OwnTurn::Mark);
     }
-    let origin = next_erasable(cluster, id)?;
-    Some(OwnTurn::Erase(origin))
+    if let Some(origin) = next_erasable(cluster, id) {
+        return Some(OwnTurn::Erase(origin));
+    }
+    if may_register(cluster, id) {
+        return Some(OwnTurn::Register);
+    }
+    if may_tell(cluster, id) {
+        return Some(OwnTurn::Tell);
+    }
+    None
 }
 
-/// What a member that runs has to do: one that is up repairs first, where it has anything to; else the first step on
-/// its links that it may. One that waits may take its first packet, and nothing else. This only reads.
+/// What a member that runs has to do: one that is up publishes its start first, where it is a new master; else it
+/// repairs, where it has anything to; else the first step on its links that it may. One that waits may take its first
+/// packet, and nothing else. This only reads.
 fn next_turn(cluster: &Cluster, id: MemberId) -> Option<OwnTurn>
     requires { (1 ≤ id.0) × (id.0 < size (state_of cluster.now)) }
-    ensures { MatchOption result (RestsAt (state_of cluster.now) id.0) (HasTurn (state_of cluster.now) id.0) }
+    ensures next { MatchOption result (RestsAt (state_of cluster.now) id.0) (HasTurn (state_of cluster.now) id.0) }
+    ensures starts { (member_at (state_of cluster.now) id.0).phase ≡ Phase.Up
+        → HasTurn (state_of cluster.now) id.0 OwnTurn.Start → result ≡ Some OwnTurn.Start }
 {
     if cluster.is_up(id) {
+        if may_start(cluster, id) {
+            return Some(OwnTurn::Start);
+        }
         if let Some(turn) = next_repair(cluster, id) {
             return Some(turn);
         }
@@ -256,6 +355,7 @@ fn event_of(cluster: &Cluster, id: MemberId, turn: OwnTurn) -> Event
     cluster.is_going();
     let by = name_of(cluster, id);
     match turn {
+        OwnTurn::Start => Event::Start { by },
         OwnTurn::Refresh => Event::Refresh {
             by,
             view: newest(cluster),
@@ -268,6 +368,8 @@ fn event_of(cluster: &Cluster, id: MemberId, turn: OwnTurn) -> Event
             by,
             origin: name_of(cluster, origin),
         },
+        OwnTurn::Register => Event::Synced { by },
+        OwnTurn::Tell => Event::Depth { by },
         OwnTurn::Step(step) => step.event(by),
     }
 }
@@ -280,6 +382,8 @@ fn take_turn(cluster: &mut Cluster, id: MemberId, turn: OwnTurn) -> Result<(), O
     ensures works { Works cluster.old cluster.new }
     ensures falls { OnOk result (total (state_of cluster.new) < total (state_of cluster.old)) }
     ensures once { DoesAtMost 1 (member_at (state_of cluster.old) id.0).name cluster.old cluster.new }
+    ensures done { OnOk result
+        (SameButOwed (with_event cluster.old (turn_event (state_of cluster.old) id.0 turn)) cluster.new) }
 {
     cluster.is_going();
     let event = event_of(cluster, id, turn);
@@ -296,6 +400,7 @@ fn own_turn(cluster: &mut Cluster, id: MemberId) -> Result<bool, OutOfMemory>
     requires runs { runs_at (state_of cluster.old) id.0 ≡ true }
     ensures does { DoesOrRests cluster.old cluster.new (RestsAt (state_of cluster.old) id.0) result }
     ensures once { DoesAtMost 1 (member_at (state_of cluster.old) id.0).name cluster.old cluster.new }
+    ensures starts { OnOk result (StartsFirst id.0 cluster.old cluster.new) }
 {
     let Some(turn) = next_turn(cluster, id) else {
         return Ok(false);
@@ -310,6 +415,7 @@ fn work_turn(cluster: &mut Cluster, place: usize) -> Result<bool, OutOfMemory>
     requires { place + 1 < size (state_of cluster.old) }
     ensures does { DoesOrRests cluster.old cluster.new (RestsAt (state_of cluster.old) (place + 1)) result }
     ensures once { DoesAtMost 1 (member_at (state_of cluster.old) (place + 1)).name cluster.old cluster.new }
+    ensures starts { OnOk result (StartsFirst (place + 1) cluster.old cluster.new) }
 {
     cluster.is_going();
     let id = MemberId(place as u32 + 1);
@@ -320,8 +426,8 @@ fn work_turn(cluster: &mut Cluster, place: usize) -> Result<bool, OutOfMemory>
     Ok(did)
 }
 
-/// The member at a place, which has this name, does the head of its agenda, or refuses it, where it has one that it
-/// does at once; else a step of its own. Whether it did any.
+/// The member at a place, which has this name, does the head of its agenda, or refuses it, where it has one and what
+/// refuses it doesn't pass; else a step of its own, a new master its start. Whether it did any.
 #[tactic(auto, using(crate::proofs::rounds::Turning::one_turn))]
 fn agenda_first(cluster: &mut Cluster, place: usize, name: &Name) -> Result<bool, OutOfMemory>
     requires { IsMemberAt cluster.old place name.now }
@@ -338,7 +444,7 @@ fn agenda_first(cluster: &mut Cluster, place: usize, name: &Name) -> Result<bool
 }
 
 /// The member at a place, which has this name, does a step of its own, where it runs and has any to do; else the head
-/// of its agenda, or refuses it, where it has one that it does at once. Whether it did any.
+/// of its agenda, or refuses it, where it has one and what refuses it doesn't pass. Whether it did any.
 fn own_first(cluster: &mut Cluster, place: usize, name: &Name) -> Result<bool, OutOfMemory>
     requires { IsMemberAt cluster.old place name.now }
     ensures round { TakesRound cluster.old cluster.new }
@@ -473,9 +579,10 @@ pub(crate) fn round<G: Gate>(cluster: &mut Cluster, turns: u32, gate: &G) -> Res
     Ok(())
 }
 
-/// Every member does the first of its tasks, or refuses it, where it has one that it does at once: whether any did.
+/// Every member does the first of its tasks, or refuses it, where it has one and what refuses it doesn't pass: whether
+/// any did.
 fn perform_each(cluster: &mut Cluster) -> Result<bool, OutOfMemory>
-    ensures { FinishesOrRests cluster.old cluster.new (NothingIsDue cluster.old) result }
+    ensures { FinishesOrRests cluster.old cluster.new (AllLeaveAgendas cluster.old) result }
 {
     let count = cluster.count();
     let mut moved = false;
@@ -488,9 +595,10 @@ fn perform_each(cluster: &mut Cluster) -> Result<bool, OutOfMemory>
     Ok(moved)
 }
 
-/// Every member does all its tasks, or refuses them, but those that one leaves that waits: whether there were any.
+/// Every member does all its tasks, or refuses them, but those of which what refuses them will pass: whether there were
+/// any.
 fn finish_all(cluster: &mut Cluster) -> Result<bool, OutOfMemory>
-    ensures { FinishesOrRests cluster.old cluster.new (NothingIsDue cluster.old) result }
+    ensures { FinishesOrRests cluster.old cluster.new (AllLeaveAgendas cluster.old) result }
 {
     if !perform_each(cluster)? {
         return Ok(false);
@@ -510,8 +618,7 @@ fn either(one: bool, other: bool) -> bool
 
 /// Every member takes one turn of its own work: whether any did something.
 fn pass(cluster: &mut Cluster) -> Result<bool, OutOfMemory>
-    ensures { DoesOrRests cluster.old cluster.new
-        ((i : ℕ) → i + 1 < size (state_of cluster.old) → RestsAt (state_of cluster.old) (i + 1)) result }
+    ensures { DoesOrRests cluster.old cluster.new (AllRest (state_of cluster.old)) result }
 {
     let count = cluster.count();
     let mut moved = false;
@@ -526,9 +633,7 @@ fn pass(cluster: &mut Cluster) -> Result<bool, OutOfMemory>
 #[tactic(auto, using(crate::proofs::rounds::Turning::works_trans, crate::proofs::rounds::Turning::works_refl))]
 fn work_out(cluster: &mut Cluster) -> Result<(), OutOfMemory>
     ensures works { Works cluster.old cluster.new }
-    ensures idle { OnOk result (NobodySteps (state_of cluster.new)) }
-    ensures marks { OnOk result (MarksNobody (state_of cluster.new)) }
-    ensures erases { OnOk result (ErasesNobody (state_of cluster.new)) }
+    ensures rests { OnOk result (AllRest (state_of cluster.new)) }
 {
     'passes: loop {
         cluster.is_going();
@@ -544,9 +649,7 @@ fn work_out(cluster: &mut Cluster) -> Result<(), OutOfMemory>
 pub(crate) fn drain(cluster: &mut Cluster) -> Result<(), OutOfMemory>
     ensures round { TakesRound cluster.old cluster.new }
     ensures empty { OnOk result (AgendasAreEmpty cluster.new) }
-    ensures idle { OnOk result (NobodySteps (state_of cluster.new)) }
-    ensures marks { OnOk result (MarksNobody (state_of cluster.new)) }
-    ensures erases { OnOk result (ErasesNobody (state_of cluster.new)) }
+    ensures rests { OnOk result (AllRest (state_of cluster.new)) }
 {
     'drains: loop {
         work_out(cluster)?;

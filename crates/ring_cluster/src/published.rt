@@ -1,38 +1,36 @@
 //! What each member has published, read of the journal.
-ghost use Rattle.std.specs.Prelude.{◌≡◌, ◌<◌, ◌∷◌, ◌++◌, [], List, true, length, map, Some, IfOk, OnOk};
+ghost use Rattle.std.specs.Prelude.{◌≡◌, ◌<◌, ◌∷◌, ◌++◌, [], List, length, map, IfOk, OnOk};
 ghost use Rattle.std.specs.Prelude.{slice_set, slice_index_or, bytes_eq, IfSome};
-ghost use Rattle.std.specs.List.{list_all};
 ghost use Rattle.group_view.specs.Change.{AreDifferent};
 ghost use Rattle.ring_rules.specs.declared.event.Event.{Event};
-ghost use Rattle.ring_rules.specs.Event.{is_multicast};
+ghost use Rattle.ring_rules.specs.declared.kind.Kind.{Kind};
+ghost use Rattle.ring_rules.specs.Kind.{kind_of, shown_kind};
 ghost use Rattle.ring_rules.specs.Published.{published_in};
 ghost use Rattle.ring_cluster.specs.Agendas.{place_among};
-ghost use Rattle.ring_cluster.specs.Published.{told_in};
+ghost use Rattle.ring_cluster.specs.Published.{told_by, told_in};
 
 use ring_names::{Body, Name, OutOfMemory};
-use ring_rules::Event;
+use ring_rules::{Event, Kind};
 use std::alloc::Global;
 
-/// Of each member of these names, by places, the bodies that the events have published, in order. None of the events is
-/// of the queue, so there is a body of each message.
-pub(crate) fn casts_of<'a>(
+/// Of each member of these names, by places, what is told of the messages that the events have published, in order.
+pub(crate) fn told_of<'a>(
     alloc: Global,
     names: &[Name],
     events: &'a [Event],
-) -> Result<Vec<Vec<&'a Body>>, OutOfMemory>
-    requires different { AreDifferent names.now }
-    requires multicast { list_all is_multicast events.now ≡ true }
+) -> Result<Vec<Vec<Option<&'a Body>>>, OutOfMemory>
+    requires { AreDifferent names.now }
     ensures { IfOk result (λ all. told_in all.items ≡ map (λ name. published_in name events.now) names.now) }
 {
     let mut all = nothing_of(alloc, names)?;
     for event in events {
-        push_cast(&mut all, names, event)?;
+        push_told(&mut all, names, event)?;
     }
     Ok(all)
 }
 
 /// Nothing of each.
-fn nothing_of<'a>(alloc: Global, names: &[Name]) -> Result<Vec<Vec<&'a Body>>, OutOfMemory>
+fn nothing_of<'a>(alloc: Global, names: &[Name]) -> Result<Vec<Vec<Option<&'a Body>>>, OutOfMemory>
     ensures { IfOk result (λ all. told_in all.items ≡ map (λ name. published_in name []) names.now) }
 {
     let mut all = Vec::with_capacity(alloc, names.len())?;
@@ -43,39 +41,54 @@ fn nothing_of<'a>(alloc: Global, names: &[Name]) -> Result<Vec<Vec<&'a Body>>, O
 }
 
 /// What one event more publishes joins what those before it did.
-fn push_cast<'a>(
-    all: &mut Vec<Vec<&'a Body>>,
+fn push_told<'a>(
+    all: &mut Vec<Vec<Option<&'a Body>>>,
     names: &[Name],
     event: &'a Event,
 ) -> Result<(), OutOfMemory>
     requires different { AreDifferent names.now }
     requires many { length all.old.items ≡ length names.now }
-    requires multicast { is_multicast event.now ≡ true }
     ensures { OnOk result ((before : List Event)
         → told_in all.old.items ≡ map (λ name. published_in name before) names.now
         → told_in all.new.items ≡ map (λ name. published_in name (before ++ event.now ∷ [])) names.now) }
 {
-    let Some(body) = event.own_body() else {
-        return Ok(());
-    };
+    match event.kind() {
+        Kind::Says => push_said(all, names, event),
+        _ => Ok(()),
+    }
+}
+
+/// The same of an event by which its member says something.
+fn push_said<'a>(
+    all: &mut Vec<Vec<Option<&'a Body>>>,
+    names: &[Name],
+    event: &'a Event,
+) -> Result<(), OutOfMemory>
+    requires different { AreDifferent names.now }
+    requires many { length all.old.items ≡ length names.now }
+    requires says { shown_kind (kind_of event.now) ≡ Kind.Says }
+    ensures { OnOk result ((before : List Event)
+        → told_in all.old.items ≡ map (λ name. published_in name before) names.now
+        → told_in all.new.items ≡ map (λ name. published_in name (before ++ event.now ∷ [])) names.now) }
+{
     if let Some(place) = the_place_among(names, event.by()) {
-        push_at(all, place, body)?;
+        push_at(all, place, event.own_body())?;
     }
     Ok(())
 }
 
-/// A body joins those of the member at a place.
+/// What is told of a message joins that of those of the member at a place.
 fn push_at<'a>(
-    all: &mut Vec<Vec<&'a Body>>,
+    all: &mut Vec<Vec<Option<&'a Body>>>,
     place: usize,
-    body: &'a Body,
+    told: Option<&'a Body>,
 ) -> Result<(), OutOfMemory>
     requires { place < length all.old.items }
     ensures { OnOk result (told_in all.new.items ≡ slice_set (told_in all.old.items) place
-        (slice_index_or (told_in all.old.items) place [] ++ Some body.now ∷ [])) }
+        (slice_index_or (told_in all.old.items) place [] ++ told_by told.entry ∷ [])) }
 {
-    let bodies = &mut all[place];
-    bodies.push(body)?;
+    let messages = &mut all[place];
+    messages.push(told)?;
     Ok(())
 }
 

@@ -10,8 +10,8 @@ use Rattle.ring_rules.specs.declared.event.Event.{Event}
 use Rattle.ring_rules.specs.declared.event.Event.TheVariants as event
 use Rattle.ring_rules.specs.Bounded.{IsBounded}
 use Rattle.ring_rules.specs.Event.{is_asked_multicast, is_multicast}
-use Rattle.ring_script.specs.Vocabulary.{asked_phrase}
-use Rattle.ring_journal.specs.Written.{IsFitPosition, IsFitNumber, HasNameablePositions, IsWithin}
+use Rattle.ring_script.specs.Vocabulary.{asked_phrase, IsFitPosition, HasNameablePositions}
+use Rattle.ring_journal.specs.Written.{IsFitNumber, IsWithin}
 
 -- the versions and the numbers of refusals of a run are small, so its positions alone matter
 asked_within : (c : Client) → IsFitPosition (asked_phrase c).further → IsFitNumber (asked_phrase c).further

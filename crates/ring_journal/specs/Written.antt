@@ -1,14 +1,13 @@
 -- The text of a journal.
 use Rattle.std.specs.Prelude.{◌≤◌, ℕ, List, [], ◌∷◌, ◌++◌, map, codes, ⊤}
 use Rattle.ring_names.specs.declared.numbers.CreditSpec.{CreditSpec}
-use Rattle.ring_names.specs.declared.numbers.Position.{Position}
 use Rattle.ring_rules.specs.declared.event.Event.{Event}
 use Rattle.ring_rules.specs.declared.event.Event.TheVariants.{Refuse}
 use Rattle.ring_script.specs.declared.vocabulary.Further.{Further}
 use Rattle.ring_script.specs.declared.vocabulary.Further.TheVariants as further
 use Rattle.ring_script.specs.declared.vocabulary.Phrase.{Phrase}
 use Rattle.ring_script.specs.Steps.{most_code}
-use Rattle.ring_script.specs.Vocabulary.{text_of, most_position, most_version, phrase_of}
+use Rattle.ring_script.specs.Vocabulary.{text_of, most_version, phrase_of, IsNameable}
 use Rattle.serde_json.specs.Data.{Data, string, number, unsigned, array, object, no_members, member}
 use Rattle.serde_json.specs.View.{items_of}
 use Rattle.serde_json.specs.Written.{compact_text}
@@ -58,15 +57,6 @@ events_text (e ∷ es) = compact_text (data_of e) ++ 10 ∷ events_text es
 abbrev pub journal_text : List (List ℕ) → CreditSpec → List Event → List ℕ
 journal_text members credit events = compact_text (header_data members credit) ++ 10 ∷ events_text events
 
--- a position that a journal can name
-abbrev pub IsNameable : Position → Type 0
-IsNameable at = (1 ≤ at.0) × (at.0 ≤ most_position)
-
--- a position behind a name is within that limit
-abbrev pub IsFitPosition : Further → Type 0
-IsFitPosition (further.Position at) = IsNameable at
-IsFitPosition f = ⊤
-
 -- a number behind a name is within its limit: a position, or a version
 abbrev pub IsFitNumber : Further → Type 0
 IsFitNumber (further.Position at) = IsNameable at
@@ -81,7 +71,3 @@ HasFitCode e = ⊤
 -- the numbers of an event are within the limits of a journal: the number of its refusal, its position, and its version
 abbrev pub IsWithin : Event → Type 0
 IsWithin e = HasFitCode e × IsFitNumber (phrase_of e).further
-
--- the position that an event names is within its limit
-abbrev pub HasNameablePositions : Event → Type 0
-HasNameablePositions e = IsFitPosition (phrase_of e).further

@@ -11,7 +11,8 @@ ghost use Rattle.ring_journal.specs.declared.verdict.Verdict.{Verdict};
 ghost use Rattle.ring_journal.specs.declared.verdict.Verdict.TheVariants.{Legal};
 ghost use Rattle.ring_journal.specs.Text.{IsVerdictOf};
 ghost use Rattle.ring_journal.specs.Laws.{IsOfRun};
-ghost use Rattle.ring_journal.specs.Written.{HasNameablePositions, IsWithin};
+ghost use Rattle.ring_script.specs.Vocabulary.{HasNameablePositions};
+ghost use Rattle.ring_journal.specs.Written.{IsWithin};
 
 use ring_rules::{
     an_idle_ring_is_quiet, each_step_of_repair_leaves_less_to_do, every_number_is_bounded,

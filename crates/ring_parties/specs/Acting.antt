@@ -1,5 +1,5 @@
 -- What an event does to the parties, before the ends of links meet.
-use Rattle.std.specs.Prelude.{◌≡◌, ℕ, ◌+◌, ◌<◌, ◌++◌, ◌∷◌, Bool, true, false, not, cond, List, [], length, Option, Some, None, MatchOption, slice_index_or, map, nat_eq, nat_lt, ⊤, Ok}
+use Rattle.std.specs.Prelude.{◌≡◌, ℕ, ◌+◌, ◌<◌, ◌≤◌, ◌++◌, ◌∷◌, Bool, true, false, not, cond, List, [], length, Option, Some, None, MatchOption, slice_index_or, map, nat_eq, nat_lt, ⊤, Ok}
 use Rattle.std.specs.List.{filter}
 use Rattle.queue_core.specs.declared.message.Message.{Message}
 use Rattle.ring_names.specs.declared.reason.Reason.{Reason}
@@ -9,7 +9,7 @@ use Rattle.credit_flow.specs.Credit.{grant_due}
 use Rattle.credit_flow.specs.Link.{with_grant}
 use Rattle.group_view.specs.declared.link.LinkName.{LinkName}
 use Rattle.group_view.specs.View.{Group}
-use Rattle.group_view.specs.Change.{marked, erased, admitted}
+use Rattle.group_view.specs.Change.{marked, erased, registered, admitted}
 use Rattle.group_view.specs.Since.{view_at}
 use Rattle.promotion.specs.Elect.{installed}
 use Rattle.ring_rules.specs.declared.kind.LinkStep.{LinkStep}
@@ -28,7 +28,9 @@ use Rattle.gm_member.specs.View.{ring_link}
 use Rattle.gm_member.specs.Shown.{When}
 use Rattle.ring_parties.specs.Ends.{PacketShown, OutSeen, InSeen, opened_out, fresh_in}
 use Rattle.ring_parties.specs.Parties.{EndsSeen, Shown, Keeps, Deposit, Parties, node_at, with_node}
-use Rattle.ring_parties.specs.Keeps.{said_by, saying_refused}
+use Rattle.activity.specs.Kept.{got_of}
+use Rattle.confirm_book.specs.Book.{last_of}
+use Rattle.ring_parties.specs.Keeps.{said_by, saying_refused, own_known, round_next}
 
 -- ---- one end
 
@@ -99,6 +101,11 @@ link_end_refused m = take_refused m.held (end_refused (first_item m.ends.link))
 -- of a gain
 abbrev pub grant_refused : Shown → Option Reason
 grant_refused m = up_refused m.held (on_some m.held.out reason.NoOutLink (λ _. refuse_if (is_empty (back_of m.ends.out)) reason.NoGrant))
+
+-- The book of a party has all messages that its member has published, and no more of them come round by the next packet.
+pub record IsBooked (m : Shown) (k : Keeps) : Type 0 where
+  pub last : last_of k.book ≡ got_of (own_known m.held)
+  pub round : packet_refused m ≡ None → round_next m ≤ last_of k.book
 
 -- of a stop
 abbrev pub stop_refused : Shown → Option Reason
@@ -251,6 +258,10 @@ viewing v q = record q { views = q.views ++ v ∷ [] }
 abbrev pub erasing : Parties → ℕ → Group
 erasing q p = installed (erased (newest_of q) p)
 
+-- the one in which x is registered as synchronised, and a master is elected where none stands
+abbrev pub registering : Parties → ℕ → Group
+registering q x = installed (registered (newest_of q) x)
+
 -- the member at a place has another view
 abbrev pub LooksAt : Group → ℕ → Parties → Parties → Option (LinkName × OutSeen) → Type 0
 LooksAt v i q q' replaced = (b : Shown) × (new : Option Deposit) × Looks v (node_at q i) b new replaced × (q' ≡ depositing new (with_node q i b))
@@ -291,6 +302,7 @@ Acts Stops keeps i d q q' replaced = (b : Shown) × Halts (node_at q i) b × (q'
 Acts (Changes (change.Mark dead)) keeps i d q q' replaced = LooksAt (marked (newest_of q) d) i (viewing (marked (newest_of q) d) q) q' replaced
 Acts (Changes (change.Erase origin)) keeps i d q q' replaced = LooksAt (erasing q d) i (viewing (erasing q d) q) q' replaced
 Acts (Changes (change.Admit name)) keeps i d q q' replaced = AdmitsAt name i q q' replaced
+Acts (Changes change.Register) keeps i d q q' replaced = LooksAt (registering q (i + 1)) i (viewing (registering q (i + 1)) q) q' replaced
 Acts (Reads version) keeps i d q q' replaced = LooksAt (view_at q.views version) i q q' replaced
 Acts (Tells code inner) keeps i d q q' replaced = (q' ≡ q) × (replaced ≡ None)
 Acts k keeps i d q q' replaced = (b : Shown) × DoesAlone k keeps (node_at q i) b × (q' ≡ with_node q i b) × (replaced ≡ None)

@@ -13,9 +13,9 @@ use Rattle.group_view.specs.View.{Group}
 use Rattle.group_view.specs.Change.{marked}
 use Rattle.registrar.specs.Registry.{Registry, newest}
 use Rattle.registrar.specs.Asked.{request_refusal}
-use Rattle.registrar.specs.Handled.{admitted_view, erased_view}
+use Rattle.registrar.specs.Handled.{admitted_view, erased_view, synced_view}
 use Rattle.gm_member.specs.declared.questions.Ask.{Ask}
-use Rattle.gm_member.specs.declared.questions.Ask.TheVariants.{Mark, Admit, Erase, Refresh, Collect}
+use Rattle.gm_member.specs.declared.questions.Ask.TheVariants.{Mark, Admit, Erase, Register, Refresh, Collect}
 use Rattle.gm_member.specs.Held.{up_refused, answered_held}
 use Rattle.gm_member.specs.Questions.{asked_for}
 use Rattle.ring_parties.specs.declared.pending_deposit.PendingDeposit.{PendingDeposit}
@@ -60,6 +60,7 @@ abbrev pub makes_view : Ask → Bool
 makes_view (Mark dead) = true
 makes_view (Admit name) = true
 makes_view (Erase origin) = true
+makes_view (Register missing) = true
 makes_view Refresh = false
 makes_view Collect = false
 
@@ -72,6 +73,7 @@ abbrev pub view_for : {I : Type 0} → Registry I → ℕ → Ask → Group
 view_for r x (Mark dead) = marked (newest r) dead.0
 view_for r x (Admit name) = admitted_view r x name
 view_for r x (Erase origin) = erased_view r origin.0
+view_for r x (Register missing) = synced_view r x
 view_for r x Refresh = newest r
 view_for r x Collect = newest r
 

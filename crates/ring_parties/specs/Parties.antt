@@ -6,6 +6,7 @@ use Rattle.ordered_link.specs.declared.ends.LinkOut.{Ghosts}
 use Rattle.ordered_link.specs.declared.plain.PlainOut.{PlainOut}
 use Rattle.ordered_link.specs.declared.plain.PlainIn.{PlainIn}
 use Rattle.ordered_link.specs.Steps.{PlainPuts, PlainGains}
+use Rattle.confirm_book.specs.Book.{Ledger, without_room}
 use Rattle.group_view.specs.declared.link.LinkName.{LinkName}
 use Rattle.group_view.specs.View.{Group}
 use Rattle.group_view.specs.Since.{no_group}
@@ -92,16 +93,17 @@ no_shown = record {
 
 -- ---- the queue
 
--- What a party keeps of its queue beside its member: the mirror, whether it has started as a master, and the version that its view had
--- when it last told how many messages there are.
+-- What a party keeps of its queue beside its member: the mirror, whether it has started as a master, the version that its view had
+-- when it last told how many messages there are, and the book of what the member has published, but for its room.
 pub record Keeps : Type 0 where
   pub mirror : MirrorState
   pub started : Bool
   pub told : ℕ
+  pub book : Ledger
 
 -- what this one keeps
 abbrev pub keeps_in : Party → Keeps
-keeps_in p = record { mirror = p.mirror.mirror; started = p.started; told = p.told }
+keeps_in p = record { mirror = p.mirror.mirror; started = p.started; told = p.told; book = without_room p.book }
 
 -- ---- the registrar
 

@@ -1,5 +1,5 @@
 -- Why an event is refused, by what the parties show.
-use Rattle.std.specs.Prelude.{◌≡◌, ℕ, ◌+◌, ◌-◌, ◌<◌, ◌&&◌, ◌||◌, Bool, true, cond, not, nat_le, bytes_eq, List, [], ◌∷◌, length, Option, Some, None, map, option_map, position, is_some}
+use Rattle.std.specs.Prelude.{◌≡◌, ℕ, ◌+◌, ◌-◌, ◌<◌, ◌&&◌, ◌||◌, Bool, cond, not, nat_le, bytes_eq, List, [], ◌∷◌, length, Option, Some, None, map, option_map, position, is_some}
 use Rattle.std.specs.List.{filter}
 use Rattle.ring_names.specs.declared.reason.Reason.{Reason}
 use Rattle.ring_names.specs.declared.reason.Reason.TheVariants as reason
@@ -16,13 +16,13 @@ use Rattle.ring_rules.specs.Kind.{kind_of}
 use Rattle.ring_rules.specs.Event.{event_of, refusal, refused_as, is_told}
 use Rattle.registrar.specs.declared.waiting_link.WaitingLink.{WaitingLink}
 use Rattle.registrar.specs.Registry.{Registry}
-use Rattle.registrar.specs.Asked.{mark_refusal, erase_refusal}
+use Rattle.registrar.specs.Asked.{mark_refusal, erase_refusal, synced_refusal}
 use Rattle.activity.specs.Kept.{got_of}
 use Rattle.gm_member.specs.Packets.{known_at}
 use Rattle.gm_member.specs.Held.{Held, at_some, up_refused, first_at_door, is_for, collected_held}
 use Rattle.ring_parties.specs.Ends.{InSeen}
 use Rattle.ring_parties.specs.Parties.{Shown, Keeps, Deposit, Parties, PartiesSeen, node_at}
-use Rattle.ring_parties.specs.States.{state, IsEventIn, is_played_kind}
+use Rattle.ring_parties.specs.States.{state, IsEventIn}
 use Rattle.ring_parties.specs.Keeps.{KeepsStand}
 use Rattle.ring_parties.specs.Standing.{StandAfter}
 use Rattle.ring_parties.specs.Acting.{waits_at, received, alone_refused, look_refused, newest_of}
@@ -54,6 +54,10 @@ erase_refused r m None = up_refused m.held (Some reason.UnknownMember)
 erase_refused r m (Some p) = up_refused m.held
     (erase_refusal r m.held.id p (got_of (known_at m.held.known (p - 1))) (known_at m.held.known (p - 1)).retired m.held.view.version)
 
+-- why it isn't registered by it as synchronised, where its party keeps that
+abbrev pub synced_refused : {I : Type 0} → Registry I → Keeps → Shown → Option Reason
+synced_refused r keeps m = up_refused m.held (synced_refusal r m.held.id keeps.mirror.missing)
+
 -- why nobody is admitted under a name, by the newest view
 abbrev pub admission_refused : Group → List ℕ → Option Reason
 admission_refused g name =
@@ -83,6 +87,7 @@ abbrev pub act_refused : Kind → Keeps → ℕ → Parties → Option Reason
 act_refused (Changes (change.Mark dead)) keeps i q = mark_refused (office_of q) (node_at q i) (id_named q dead)
 act_refused (Changes (change.Erase origin)) keeps i q = erase_refused (office_of q) (node_at q i) (id_named q origin)
 act_refused (Changes (change.Admit name)) keeps i q = up_refused (node_at q i).held (admission_refused (newest_of q) name)
+act_refused (Changes change.Register) keeps i q = synced_refused (office_of q) keeps (node_at q i)
 act_refused k keeps i q = own_refused (newest_of q) keeps k (node_at q i)
 
 -- the id of the one that is to be marked or erased
@@ -116,4 +121,8 @@ IsRefusalBy i e p r = (credit : CreditSpec) (names : List (List ℕ)) (events : 
 
 -- wherever they stand, this is the first failing condition of what the member at a place does of a kind
 abbrev pub IsRefusedAs : ℕ → Kind → Parties → Option Reason → Type 0
-IsRefusedAs i k q r = (credit : CreditSpec) (names : List (List ℕ)) (events : List Event) → StandAfter credit names events q → i + 1 < size (state credit names events) → is_played_kind k ≡ true → r ≡ refused_as (state credit names events) (i + 1) k
+IsRefusedAs i k q r = (credit : CreditSpec) (names : List (List ℕ)) (events : List Event) → StandAfter credit names events q → i + 1 < size (state credit names events) → r ≡ refused_as (state credit names events) (i + 1) k
+
+-- the same by all that they keep
+abbrev pub IsRefusedBy : ℕ → Kind → PartiesSeen → Option Reason → Type 0
+IsRefusedBy i k p r = (credit : CreditSpec) (names : List (List ℕ)) (events : List Event) → StandAfter credit names events p.all → KeepsStand (state credit names events) p.keeps → i + 1 < size (state credit names events) → r ≡ refused_as (state credit names events) (i + 1) k

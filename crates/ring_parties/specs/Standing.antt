@@ -16,6 +16,8 @@ use Rattle.gm_member.specs.Stands.{incoming_in, door_links, held_in}
 use Rattle.ring_parties.specs.Ends.{OutSeen, InSeen, Carries, HaveMet, HasRested}
 use Rattle.ring_parties.specs.States.{state}
 use Rattle.ring_parties.specs.Parties.{Shown, Parties, PartiesSeen, node_at}
+use Rattle.ring_parties.specs.Keeps.{keeps_at}
+use Rattle.ring_parties.specs.Acting.{IsBooked}
 
 -- Of each link of the ring, by its place: what its out end shows, and last showed where it was dropped; what its in end shows; and the
 -- places of the links that wait for their receivers.
@@ -107,11 +109,12 @@ pub record StandAfter (credit : CreditSpec) (names : List (List ℕ)) (events : 
 abbrev pub StandSomewhere : Parties → Type 0
 StandSomewhere q = (credit : CreditSpec) × (names : List (List ℕ)) × (events : List Event) × StandAfter credit names events q
 
--- The member at a place may act: the parties stand somewhere, and owe the registrar nothing.
+-- The member at a place may act: the parties stand somewhere, and owe the registrar nothing; and its book has what it has published.
 pub record MayAct (q : PartiesSeen) (i : ℕ) : Type 0 where
   pub within : i < length q.all.nodes
   pub delivered : q.owes ≡ false
   pub standing : StandSomewhere q.all
+  pub booked : IsBooked (node_at q.all i) (keeps_at q.keeps i)
 
 -- the others stand wherever these do
 abbrev pub StandStill : Parties → Parties → Type 0

@@ -7,7 +7,7 @@ ghost use Rattle.registrar.specs.Asked.{stop_refusal as the_stop_refusal};
 ghost use Rattle.ring_rules.specs.Kind.{Steps, kind_of, shown_kind};
 ghost use Rattle.ring_parties.specs.Parties.{shown_of, shown_in, keeps_in};
 ghost use Rattle.ring_parties.specs.Keeps.{kept_after};
-ghost use Rattle.ring_parties.specs.Acting.{IsReady, step_refused, DoesStep};
+ghost use Rattle.ring_parties.specs.Acting.{IsReady, IsBooked, step_refused, DoesStep};
 ghost use Rattle.ring_parties.specs.Acting.{is_alone, alone_refused, DoesAlone};
 ghost use Rattle.ring_parties.specs.Tried.{IsJudged, Tries};
 
@@ -42,7 +42,8 @@ fn first_named(members: &[Party], name: &Name) -> Option<usize>
 
 /// The member does a step on its links, where it is enabled.
 fn do_step(party: &mut Party, step: LinkStep) -> Result<(), Refused>
-    requires { IsReady (shown_in party.old) }
+    requires ready { IsReady (shown_in party.old) }
+    requires booked { IsBooked (shown_in party.old) (keeps_in party.old) }
     ensures tries { Tries (step_refused step (shown_in party.old)) (DoesStep step)
         (shown_in party.old) (shown_in party.new) result }
     ensures keeps { OnOk result (keeps_in party.new ≡ kept_after (Steps step) (shown_in party.old) (keeps_in party.old)) }
@@ -62,6 +63,7 @@ fn do_alone(party: &mut Party, event: &Event) -> Result<(), Refused>
     requires alone { is_alone (shown_kind (kind_of event.now)) ≡ true }
     requires free { (shown_in party.old).held.asks ≡ false }
     requires ready { IsReady (shown_in party.old) }
+    requires booked { IsBooked (shown_in party.old) (keeps_in party.old) }
     ensures judged { IsJudged (alone_refused (kind_of event.now) (keeps_in party.old) (shown_in party.old)) result }
     ensures ok { OnOk result (DoesAlone (kind_of event.now) (keeps_in party.old) (shown_in party.old) (shown_in party.new)) }
     ensures keeps { OnOk result (keeps_in party.new
@@ -97,7 +99,6 @@ impl Parties {
     ghost use Rattle.group_view.specs.View.{number};
     ghost use Rattle.group_view.specs.Since.{view_at};
     ghost use Rattle.ring_rules.specs.Kind.{kind_of, shown_kind, Changes, Stops};
-    ghost use Rattle.ring_parties.specs.States.{is_played, is_played_kind};
     ghost use Rattle.ring_parties.specs.Keeps.{keeps_at, all_kept_after};
     ghost use Rattle.ring_parties.specs.Parties.{node_at};
     ghost use Rattle.ring_parties.specs.Standing.{StandSomewhere, MayAct};
@@ -106,7 +107,7 @@ impl Parties {
     ghost use Rattle.ring_parties.specs.Acting.{is_alone, alone_refused, stop_refused, look_refused};
     ghost use Rattle.ring_parties.specs.Acting.{newest_of, viewing, LooksAt, HasCredit, Acts};
     ghost use Rattle.ring_parties.specs.Refused.{id_named, mark_refused, erase_refused, office_of, own_refused};
-    ghost use Rattle.ring_parties.specs.Refused.{act_refused, marked_in};
+    ghost use Rattle.ring_parties.specs.Refused.{synced_refused, act_refused, marked_in};
     ghost use Rattle.ring_parties.specs.Looking.{makes_view, ask_refused, view_for};
 
     /// The place of the member of that name.
@@ -128,14 +129,12 @@ impl Parties {
     }
 
     /// The event of the member at a place happens there, where it is enabled: the out end that the member replaces.
-    /// It has no mirror registered, as none of the parties' is yet.
     pub(crate) fn act(
         &mut self,
         credit: CreditSpec,
         i: usize,
         event: &Event,
     ) -> Result<Option<Replaced>, Refused>
-        requires played { is_played event.now ≡ true }
         requires may { MayAct self.old i }
         requires credit { HasCredit credit (node_at (self.old).all i).held }
         ensures judged { IsJudged (act_refused (kind_of event.now) (keeps_at (self.old).keeps i) i (self.old).all) result }
@@ -241,14 +240,13 @@ impl Parties {
         }
     }
 
-    /// The member at a place has the view changed, where it may. No mirror is registered yet.
+    /// The member at a place has the view changed, where it may.
     fn act_change(
         &mut self,
         credit: CreditSpec,
         i: usize,
         change: ViewChange,
     ) -> Result<Option<Replaced>, Refused>
-        requires played { is_played_kind (Changes change) ≡ true }
         requires may { MayAct self.old i }
         requires credit { HasCredit credit (node_at (self.old).all i).held }
         ensures judged { IsJudged (act_refused (Changes change) (keeps_at (self.old).keeps i) i (self.old).all) result }
@@ -263,7 +261,7 @@ impl Parties {
             ViewChange::Mark(dead) => self.act_mark(i, &dead),
             ViewChange::Erase(origin) => self.act_erase(i, &origin),
             ViewChange::Admit(name) => self.act_admit(credit, i, &name),
-            ViewChange::Register => unreachable!(),
+            ViewChange::Register => self.act_register(i),
         }
     }
 
@@ -299,6 +297,21 @@ impl Parties {
             return Err(Refused::NotEnabled(unknown(&self.members[i].node)));
         };
         self.act_ask(i, Ask::Erase(id))
+    }
+
+    /// It has itself registered as synchronised, where it may.
+    fn act_register(&mut self, i: usize) -> Result<Option<Replaced>, Refused>
+        requires { MayAct self.old i }
+        ensures judged { IsJudged (synced_refused (office_of (self.old).all) (keeps_at (self.old).keeps i)
+            (node_at (self.old).all i)) result }
+        ensures keeps { OnOk result ((self.new).keeps ≡ (self.old).keeps) }
+        ensures ok { IfOk result (λ replaced. Acts (Changes ViewChange.Register) (keeps_at (self.old).keeps i) i
+            (marked_in (Changes ViewChange.Register) (self.old).all) (self.old).all (self.new).all
+            (replaced_seen replaced)) }
+        ensures err { OnErr result (self.new ≡ self.old) }
+    {
+        let missing = self.members[i].mirror.missing();
+        self.act_ask(i, Ask::Register { missing })
     }
 
     /// The member at a place asks the registrar to make a view, and has it, where it may.

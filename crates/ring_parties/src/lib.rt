@@ -19,3 +19,4 @@ mod stepping;
 
 pub use node::Node;
 pub use parties::Parties;
+pub use refusing::is_passing;

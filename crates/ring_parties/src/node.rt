@@ -2,7 +2,7 @@
 ghost use Rattle.std.specs.Prelude.{◌≡◌, ◌∷◌, ◌≤◌, [], List, Option, length, OnOk, OnErr, IfOk, IsOk, None, Some};
 ghost use Rattle.gm_member.specs.Held.{put_refused, pick_refused};
 ghost use Rattle.ring_parties.specs.Ends.{PacketShown};
-ghost use Rattle.ring_parties.specs.Keeps.{ops_taken, ops_next, messages_on};
+ghost use Rattle.ring_parties.specs.Keeps.{ops_taken, ops_next, messages_on, own_known, round_next};
 ghost use Rattle.ring_parties.specs.Parties.{shown_of};
 ghost use Rattle.ring_parties.specs.Acting.{IsReady, packet_refused, link_end_refused, grant_refused};
 ghost use Rattle.ring_parties.specs.Acting.{first_item, stop_refused, PutsPacket, TakesPacket, TakesEnd, Gains, Halts};
@@ -32,6 +32,7 @@ pub(crate) fn take(node: &mut Node) -> Result<Vec<Taken>, Refused>
     ensures judged { IsJudged (packet_refused (shown_of node.old)) result }
     ensures ok { OnOk result (TakesPacket (shown_of node.old) (shown_of node.new)) }
     ensures ops { IfOk result (λ taken. ops_taken taken.items ≡ ops_next (shown_of node.old)) }
+    ensures round { OnOk result ((own_known (shown_of node.new).held).forgot ≡ round_next (shown_of node.old)) }
     ensures few { IfOk result (λ taken. (k : PacketShown) (rest : List (Option PacketShown))
         → first_item (shown_of node.old).ends.link ≡ Some k ∷ rest → length taken.items ≤ messages_on k.lines) }
     ensures there { OnOk result ((k : PacketShown) × (rest : List (Option PacketShown))

@@ -1,6 +1,7 @@
 //! The parties of a cluster.
 ghost use Rattle.std.specs.Prelude.{◌≡◌, ◌-◌, ◌<◌, ◌≤◌, ◌↔◌, ◌∷◌, ◌++◌, IsSome, IfSome, IfOk};
 ghost use Rattle.std.specs.Prelude.{length, map, slice_index_or};
+ghost use Rattle.confirm_book.specs.Book.{without_room};
 ghost use Rattle.ring_parties.specs.Parties.{shown_of, shown_in, no_shown, keeps_in, node_at, names_shown};
 ghost use Rattle.ring_parties.specs.Keeps.{keeps_at};
 ghost use Rattle.ring_parties.specs.Acting.{newest_of};
@@ -9,6 +10,7 @@ use crate::node::Node;
 use crate::party::Party;
 use crate::pending_deposit::PendingDeposit;
 use activity::Load;
+use confirm_book::Book;
 use group_view::View;
 use ordered_link::PlainIn;
 use queue_mirror::Mirror;
@@ -53,6 +55,27 @@ impl Parties {
     {
         let party = party_of(&self.members, id)?;
         Some(&party.mirror)
+    }
+
+    /// The book of the member of that id, where there is one: how many of its messages are confirmed.
+    pub fn book(&self, id: MemberId) -> Option<&Book>
+        ensures there { IsSome result ↔ ((1 ≤ id.0) × (id.0 ≤ length (self.now).all.nodes)) }
+        ensures kept { IfSome result (λ b. without_room b.now ≡ (keeps_at (self.now).keeps (id.0 - 1)).book) }
+    {
+        let party = party_of(&self.members, id)?;
+        Some(&party.book)
+    }
+
+    /// The version that the view of the member of that id had when it last told how many messages its queue has; 0 before
+    /// that.
+    pub fn told(&self, id: MemberId) -> u32
+        requires { (1 ≤ id.0) × (id.0 ≤ length (self.now).all.nodes) }
+        ensures { result ≡ (keeps_at (self.now).keeps (id.0 - 1)).told }
+    {
+        let Some(party) = party_of(&self.members, id) else {
+            unreachable!()
+        };
+        party.told
     }
 
     /// How many members there are.

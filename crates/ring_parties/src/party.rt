@@ -4,17 +4,20 @@ ghost use Rattle.ring_parties.specs.Parties.{shown_of, shown_in, keeps_in};
 ghost use Rattle.ring_parties.specs.Keeps.{no_keeps, joining_keeps};
 
 use crate::node::Node;
+use confirm_book::Book;
 use queue_mirror::Mirror;
 use std::alloc::Global;
 
-/// A member of the ring with what it keeps of its queue: the mirror, whether it has published Start as a master, and
-/// the version that its view had when it last told how many messages there are (`rabbit_mirror_queue_slave`).
+/// A member of the ring with what it keeps of its queue: the mirror, whether it has published Start as a master, the
+/// version that its view had when it last told how many messages there are (`rabbit_mirror_queue_slave`), and the book of
+/// its own messages, by which they are confirmed.
 #[derive(Drop)]
 pub(crate) struct Party {
     pub(crate) node: Node,
     pub(crate) mirror: Mirror,
     pub(crate) started: bool,
     pub(crate) told: u32,
+    pub(crate) book: Book,
 }
 
 impl Party {
@@ -28,6 +31,7 @@ impl Party {
             mirror: Mirror::founding(alloc),
             started: false,
             told: 0,
+            book: Book::new(alloc),
         }
     }
 
@@ -41,6 +45,7 @@ impl Party {
             mirror: Mirror::joining(alloc),
             started: false,
             told: 0,
+            book: Book::new(alloc),
         }
     }
 }

@@ -13,8 +13,12 @@ ghost use Rattle.gm_member.specs.Held.{up_refused};
 ghost use Rattle.gm_member.specs.Loads.{packet_seen};
 ghost use Rattle.ring_parties.specs.Ends.{PacketShown};
 ghost use Rattle.ring_parties.specs.Parties.{shown_of, shown_in, keeps_in};
+ghost use Rattle.activity.specs.Kept.{got_of};
+ghost use Rattle.confirm_book.specs.Book.{Ledger, last_of, without_room, published as published_in, came_round};
 ghost use Rattle.ring_parties.specs.Keeps.{said_by, saying_refused, publishing, kept_after, ops_taken, messages_on};
-ghost use Rattle.ring_parties.specs.Acting.{IsReady, Casts, TakesPacket, packet_refused, alone_refused, DoesAlone};
+ghost use Rattle.ring_parties.specs.Keeps.{kind_of_message, own_known};
+ghost use Rattle.ring_parties.specs.Acting.{IsReady, IsBooked, Casts, TakesPacket, packet_refused, alone_refused};
+ghost use Rattle.ring_parties.specs.Acting.{DoesAlone};
 ghost use Rattle.ring_parties.specs.Acting.{first_item as the_first};
 ghost use Rattle.ring_parties.specs.Tried.{IsJudged};
 
@@ -145,6 +149,7 @@ fn message(party: &Party, event: &Event) -> Result<Message, OutOfMemory>
 pub(crate) fn say(party: &mut Party, event: &Event) -> Result<(), Refused>
     requires says { shown_kind (kind_of event.now) ≡ Kind.Says }
     requires free { (shown_in party.old).held.asks ≡ false }
+    requires booked { IsBooked (shown_in party.old) (keeps_in party.old) }
     ensures judged { IsJudged (alone_refused (kind_of event.now) (keeps_in party.old) (shown_in party.old)) result }
     ensures ok { OnOk result (DoesAlone (kind_of event.now) (keeps_in party.old) (shown_in party.old) (shown_in party.new)) }
     ensures keeps { OnOk result (keeps_in party.new
@@ -161,8 +166,9 @@ pub(crate) fn say(party: &mut Party, event: &Event) -> Result<(), Refused>
     publish(party, message)
 }
 
-/// It publishes a message, which its own mirror takes at once.
+/// It publishes a message, which its own mirror takes at once, and notes it in its book.
 fn publish(party: &mut Party, message: Message) -> Result<(), Refused>
+    requires { last_of (keeps_in party.old).book ≡ got_of (own_known (shown_in party.old).held) }
     ensures judged { IsJudged (up_refused (shown_in party.old).held None) result }
     ensures ok { OnOk result (Casts message (shown_in party.old) (shown_in party.new)) }
     ensures keeps { OnOk result (keeps_in party.new
@@ -173,14 +179,30 @@ fn publish(party: &mut Party, message: Message) -> Result<(), Refused>
     let Ok(operation) = operation_of(&message) else {
         return Err(Refused::OutOfMemory);
     };
+    let kind = message_kind(&message);
     if party.mirror.reserve(1).is_err() {
         return Err(Refused::OutOfMemory);
     }
-    if let Err((_message, fault)) = party.node.publish(message) {
-        return Err(Refused::from(fault));
+    if party.book.reserve().is_err() {
+        return Err(Refused::OutOfMemory);
+    }
+    match party.node.publish(message) {
+        Ok(number) => party.book.published(number, kind),
+        Err((_message, fault)) => return Err(Refused::from(fault)),
     }
     party.follow(operation);
     Ok(())
+}
+
+/// The kind of a message, as its book tells them apart.
+fn message_kind(message: &Message) -> confirm_book::Kind
+    ensures { result ≡ kind_of_message message.now }
+{
+    match message {
+        Message::Cast(_) => confirm_book::Kind::Cast,
+        Message::Queue(Op::Publish { .. }) => confirm_book::Kind::Publish,
+        Message::Queue(_) => confirm_book::Kind::Other,
+    }
 }
 
 /// A copy of the operation that a message is, if it is one.
@@ -215,7 +237,9 @@ impl Party {
         ensures shown { shown_in self.new ≡ shown_in self.old }
         ensures none { operation ≡ None → keeps_in self.new ≡ keeps_in self.old }
         ensures some { (op : Op) → operation ≡ Some op → keeps_in self.new
-            ≡ publishing (messages.Queue op) (shown_in self.old).held.view.version (keeps_in self.old) }
+            ≡ record (publishing (messages.Queue op) (shown_in self.old).held.view.version (keeps_in self.old)) {
+              book = (keeps_in self.old).book;
+            } }
     {
         let Some(operation) = operation else {
             return;
@@ -225,6 +249,18 @@ impl Party {
             self.told = self.node.view().version;
         }
         self.mirror.apply_reserved(operation);
+    }
+
+    /// Its book hears how many of its messages have come round to the member.
+    fn hear_round(&mut self)
+        requires { (own_known (shown_in self.old).held).forgot ≤ last_of (keeps_in self.old).book }
+        ensures shown { shown_in self.new ≡ shown_in self.old }
+        ensures keeps { keeps_in self.new ≡ record (keeps_in self.old) {
+          book = without_room (came_round (own_known (shown_in self.old).held).forgot (keeps_in self.old).book);
+        } }
+        ensures mirror { self.new.mirror ≡ self.old.mirror }
+    {
+        let (_casts, _publishes) = self.book.came_round(self.node.confirmed());
     }
 }
 
@@ -273,10 +309,12 @@ fn apply_taken(mirror: &mut Mirror, taken: Vec<Taken>)
     }
 }
 
-/// The member takes the oldest packet of the link from which it takes, where that is enabled, and its mirror what the
-/// packet brings. Room for that is there before, so that nothing wants memory once the packet is taken.
+/// The member takes the oldest packet of the link from which it takes, where that is enabled, its mirror what the packet
+/// brings, and its book what has come round by it. Room for that is there before, so that nothing wants memory once the
+/// packet is taken.
 pub(crate) fn take_packet(party: &mut Party) -> Result<(), Refused>
-    requires { IsReady (shown_in party.old) }
+    requires ready { IsReady (shown_in party.old) }
+    requires booked { IsBooked (shown_in party.old) (keeps_in party.old) }
     ensures judged { IsJudged (packet_refused (shown_in party.old)) result }
     ensures ok { OnOk result (TakesPacket (shown_in party.old) (shown_in party.new)) }
     ensures keeps { OnOk result (keeps_in party.new ≡ kept_after (Steps LinkStep.Take) (shown_in party.old) (keeps_in party.old)) }
@@ -288,6 +326,7 @@ pub(crate) fn take_packet(party: &mut Party) -> Result<(), Refused>
         return Err(Refused::OutOfMemory);
     };
     let taken = take(&mut party.node)?;
+    party.hear_round();
     apply_taken(&mut party.mirror, taken);
     Ok(())
 }

@@ -112,8 +112,9 @@ fn client_refusal(view: &View, party: &Party, asked: &Client) -> Option<Reason>
     }
 }
 
-/// Whether a client isn't told a refusal, as its command stays.
-fn is_passing(reason: &Reason) -> bool
+/// Whether a client isn't told a refusal, as its command stays: its member waits for its state, or hasn't started as a
+/// master yet.
+pub fn is_passing(reason: &Reason) -> bool
     ensures { result ≡ passes reason.now }
 {
     matches!(reason, Reason::Waiting | Reason::NotStarted)
@@ -291,17 +292,17 @@ fn first_pending(pending_deposit: &Option<PendingDeposit>, node: &Node) -> Optio
 impl Parties {
     ghost use Rattle.std.specs.Prelude.{◌≡◌, ◌<◌, ℕ, List, None, length};
     ghost use Rattle.ring_names.specs.declared.reason.Reason.{Reason};
-    ghost use Rattle.ring_rules.specs.declared.event.Event.TheVariants.{Mark, Erase};
+    ghost use Rattle.ring_rules.specs.declared.event.Event.TheVariants.{Mark, Erase, Synced};
     ghost use Rattle.ring_rules.specs.Kind.{Changes, step_event};
     ghost use Rattle.ring_rules.specs.Event.{version_refusal};
     ghost use Rattle.gm_member.specs.Held.{on_some, up_refused, pick_refused};
     ghost use Rattle.gm_member.specs.Questions.{has_link};
     ghost use Rattle.ring_parties.specs.Parties.{shown_of, node_at};
     ghost use Rattle.ring_parties.specs.Standing.{StandSomewhere};
-    ghost use Rattle.ring_parties.specs.Refused.{first_for, with_deposits, IsRefusalAt, IsRefusalBy, IsRefusedAs};
+    ghost use Rattle.ring_parties.specs.Refused.{first_for, with_deposits, IsRefusalAt, IsRefusalBy, IsRefusedBy};
 
     /// Why the event of the member at a place is refused, where it is: the first condition that fails. Links that wait
-    /// for the member count as if they had come to its door. The registration of a mirror is none of the parties' yet.
+    /// for the member count as if they had come to its door.
     pub fn refusal(&self, i: usize, event: &Event) -> Option<Reason>
         requires within { i < length (self.now).all.nodes }
         requires standing { StandSomewhere (self.now).all }
@@ -318,7 +319,7 @@ impl Parties {
     fn change_refusal(&self, i: usize, change: ViewChange) -> Option<Reason>
         requires within { i < length (self.now).all.nodes }
         requires standing { StandSomewhere (self.now).all }
-        ensures { IsRefusedAs i (Changes change) (self.now).all result }
+        ensures { IsRefusedBy i (Changes change) self.now result }
     {
         match change {
             ViewChange::Mark(dead) => self.mark_refusal(i, &dead),
@@ -326,7 +327,7 @@ impl Parties {
             ViewChange::Admit(name) => {
                 admit_refusal(self.registrar.view(), &self.members[i].node, &name)
             }
-            ViewChange::Register => None,
+            ViewChange::Register => self.register_refusal(i),
         }
     }
 
@@ -430,6 +431,22 @@ impl Parties {
             got: kept.got,
             retired: kept.retired,
             view: node.view().version,
+        })
+    }
+
+    /// Why it may not have itself registered as synchronised: by the newest view, and by what its mirror lacks.
+    pub fn register_refusal(&self, i: usize) -> Option<Reason>
+        requires within { i < length (self.now).all.nodes }
+        requires standing { StandSomewhere (self.now).all }
+        ensures { (by : List ℕ) → IsRefusalBy i (Synced by) self.now result }
+    {
+        let party = &self.members[i];
+        if let Some(reason) = up_refusal(&party.node) {
+            return Some(reason);
+        }
+        self.registrar.refusal(&Request::Synced {
+            by: party.node.id(),
+            missing: party.mirror.missing(),
         })
     }
 }

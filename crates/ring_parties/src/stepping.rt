@@ -72,7 +72,7 @@ impl Parties {
     ghost use Rattle.ring_names.specs.declared.reason.Reason.{Reason};
     ghost use Rattle.ring_rules.specs.declared.phase.Phase.TheVariants.{Up};
     ghost use Rattle.ring_rules.specs.Event.{by_of, refusal};
-    ghost use Rattle.ring_parties.specs.States.{state, IsEventIn, is_played};
+    ghost use Rattle.ring_parties.specs.States.{state, IsEventIn};
     ghost use Rattle.ring_parties.specs.Parties.{node_at};
     ghost use Rattle.ring_parties.specs.Tried.{IsJudged};
     ghost use Rattle.ring_parties.specs.Keeps.{KeepsStand};
@@ -83,7 +83,7 @@ impl Parties {
 
     /// The event of the member at a place happens, where it is enabled, and joins the journal. A refusal changes
     /// nothing. Before an event that isn't refused what the registrar is owed goes there, and the member collects the
-    /// links that wait for it; without memory for that nothing happens. The caller gives no registration of a mirror.
+    /// links that wait for it; without memory for that nothing happens.
     pub fn step(
         &mut self,
         credit: CreditSpec,
@@ -151,7 +151,6 @@ impl Parties {
     ) -> Result<(), OutOfMemory>
         requires within { i < length (self.old).all.nodes }
         requires delivered { (self.old).owes ≡ false }
-        requires played { is_played event.now ≡ true }
         requires named { id_named (self.old).all (by_of event.now) ≡ Some (i + 1) }
         requires waits { (node_at (self.old).all i).held.phase ≡ Up → NothingWaits (i + 1) (self.old).all }
         requires few { length events.now + 1 < 2 ^ 59 }

@@ -3,7 +3,6 @@ use Rattle.std.specs.Prelude.{ℕ, ◌-◌, Bool, true, false, List, [], ◌∷�
 use Rattle.std.specs.List.{range_with_len, flat_map, filter}
 use Rattle.std.specs.Fmt.{decimal}
 use Rattle.queue_core.specs.declared.message.Message.{Message}
-use Rattle.queue_core.specs.declared.message.Message.TheVariants.{Cast, Queue}
 use Rattle.queue_core.specs.declared.held.CopyState.{CopyState}
 use Rattle.queue_core.specs.declared.held.CopyState.TheVariants.{Ready, Again, Unacked}
 use Rattle.queue_core.specs.Queue.{Item}
@@ -21,6 +20,7 @@ use Rattle.ring_rules.specs.Machine.{World, member_at, row_at, view_in, newest}
 use Rattle.ring_rules.specs.Step.{size}
 use Rattle.ring_rules.specs.Event.{by_of}
 use Rattle.ring_rules.specs.Asked.{counts_of, state_of}
+use Rattle.ring_rules.specs.Published.{told_of}
 use Rattle.ring_script.specs.declared.vocabulary.Further.{Further}
 use Rattle.ring_script.specs.declared.vocabulary.Further.TheVariants as further
 use Rattle.ring_script.specs.declared.vocabulary.Phrase.{Phrase}
@@ -79,10 +79,14 @@ counts_lines c =
     codes "casts " ++ decimal c.casts ++ codes " confirmed " ++ decimal c.casts_confirmed ++ newline
     ++ codes "publishes " ++ decimal c.publishes ++ codes " confirmed " ++ decimal c.publishes_confirmed ++ newline
 
--- one message of the origin of that name, as a member received it; of what a master does to its queue nothing is told
+-- the line of a cast of the origin of that name, by its body, where there is one
+abbrev pub cast_line : List ℕ → Option (List ℕ) → List ℕ
+cast_line origin None = []
+cast_line origin (Some body) = codes "heard " ++ origin ++ codes " " ++ body ++ newline
+
+-- one message of that origin, as a member received it; of what a master does to its queue nothing is told
 abbrev pub heard_line : List ℕ → Message → List ℕ
-heard_line origin (Cast body) = codes "heard " ++ origin ++ codes " " ++ body ++ newline
-heard_line origin (Queue o) = []
+heard_line origin m = cast_line origin (told_of m)
 
 -- what the member x has received of the origin p, in order: from its first message on, or from its base on where x joined
 abbrev pub heard_from : World → ℕ → ℕ → List ℕ

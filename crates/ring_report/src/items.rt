@@ -2,14 +2,33 @@
 ghost use Rattle.std.specs.Prelude.{◌≡◌, ◌++◌, OnOk};
 ghost use Rattle.std.specs.List.{flat_map};
 ghost use Rattle.queue_core.specs.Shown.{item_of};
-ghost use Rattle.ring_report.specs.Report.{item_line, item_lines, told_line};
+ghost use Rattle.ring_report.specs.Report.{item_line, item_lines, told_line, while_up};
 
 use queue_core::{CopyState, Held, Queue};
+use queue_mirror::Mirror;
 use ring_names::{Body, OutOfMemory, Position};
+use ring_rules::MemberState;
 use std::alloc::Global;
 
-/// The ready items by their positions, and then those that are handed out.
-pub(crate) fn push_items(alloc: Global, out: &mut Vec<u8>, queue: &Queue) -> Result<(), OutOfMemory>
+/// What the report says of the mirror of a member that is up: the ready items by their positions, and then those that
+/// are handed out. Of one that waits or has stopped it says nothing.
+pub fn push_items(
+    alloc: Global,
+    out: &mut Vec<u8>,
+    stands: MemberState,
+    mirror: &Mirror,
+) -> Result<(), OutOfMemory>
+    ensures { OnOk result (out.new.items ≡ out.old.items
+        ++ while_up stands (item_lines (mirror.now).mirror.queue.items)) }
+{
+    match stands {
+        MemberState::Up { .. } => push_queue(alloc, out, mirror.queue()),
+        MemberState::Waiting | MemberState::Stopped => Ok(()),
+    }
+}
+
+/// The items of a queue.
+fn push_queue(alloc: Global, out: &mut Vec<u8>, queue: &Queue) -> Result<(), OutOfMemory>
     ensures { OnOk result (out.new.items ≡ out.old.items ++ item_lines (queue.now).queue.items) }
 {
     push_told(alloc, out, queue, false)?;

@@ -4,7 +4,6 @@
 #![tactic(auto)]
 
 mod items;
-mod laws;
 mod members;
 mod refusals;
 mod reporting;
@@ -12,7 +11,7 @@ mod reporting;
 mod tests;
 mod view;
 
-pub use laws::multicasts_leave_the_queue_unused;
+pub use items::push_items;
 pub use members::{push_cast, push_counts, push_state};
 pub use refusals::{push_refusals, refusals_in};
 pub use reporting::report;

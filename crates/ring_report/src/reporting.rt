@@ -1,16 +1,14 @@
 //! The report of the plain machine.
-ghost use Rattle.std.specs.Prelude.{◌≡◌, ℕ, ◌<◌, ◌≤◌, ◌++◌, Some, IsSome, IfOk, OnOk};
+ghost use Rattle.std.specs.Prelude.{◌≡◌, ◌<◌, ◌≤◌, ◌++◌, IfOk, OnOk};
 ghost use Rattle.ring_rules.specs.Step.{size};
-ghost use Rattle.ring_rules.specs.Event.{id_of};
-ghost use Rattle.ring_rules.specs.Machine.{member_at};
 ghost use Rattle.ring_report.specs.Lent.{lent_in};
-ghost use Rattle.ring_report.specs.Report.{report_of, lines_of_member, heard_from, heard_lines, item_lines, while_up};
+ghost use Rattle.ring_report.specs.Report.{report_of, lines_of_member, heard_from, heard_lines, while_up};
 
 use crate::items::push_items;
 use crate::members::{push_counts, push_messages, push_state};
 use crate::refusals::{lent, push_refusals};
 use crate::view::push_ring;
-use ring_names::{MemberId, Name, OutOfMemory};
+use ring_names::{MemberId, OutOfMemory};
 use ring_rules::{Event, MemberState};
 use ring_world::World;
 use std::alloc::Global;
@@ -49,7 +47,7 @@ fn push_member(
     push_state(alloc, out, name, id, stands, world.view())?;
     push_counts(alloc, out, &world.counts(name))?;
     push_heard(out, world, id, stands)?;
-    push_held(alloc, out, world, name, stands)?;
+    push_items(alloc, out, stands, world.mirror(name))?;
     push_refusals(alloc, out, refusals, name)?;
     Ok(())
 }
@@ -90,22 +88,4 @@ fn push_heard_of(
 {
     let name = world.name_of(origin);
     push_messages(out, name.bytes(), world.heard_by(id, origin))
-}
-
-/// The items of its mirror, where it is up.
-fn push_held(
-    alloc: Global,
-    out: &mut Vec<u8>,
-    world: &World,
-    name: &Name,
-    stands: MemberState,
-) -> Result<(), OutOfMemory>
-    requires { IsSome (id_of (world.now).ring name.now) }
-    ensures { OnOk result ((x : ℕ) → id_of (world.now).ring name.now ≡ Some x → out.new.items ≡ out.old.items
-        ++ while_up stands (item_lines (member_at (world.now).ring x).mirror.queue.items)) }
-{
-    match stands {
-        MemberState::Up { .. } => push_items(alloc, out, world.mirror(name).queue()),
-        MemberState::Waiting | MemberState::Stopped => Ok(()),
-    }
 }

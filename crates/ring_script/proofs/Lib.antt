@@ -9,5 +9,6 @@ pub mod Walk
 pub mod Fitting
 pub mod Phrases
 pub mod Playable
+pub mod Positions
 pub mod Names
 pub mod Exact

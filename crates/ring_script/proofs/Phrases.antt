@@ -55,7 +55,7 @@ pub tells_event : (w : Word) (rest : List ℕ) → event_said (phrase_in w rest)
 tells_event word.Cast rest e = cc
 tells_event w rest e = cc
 
--- and one that clients ask of the ring asks that
+-- and one that clients ask for asks that
 pub tells_client : (w : Word) (rest : List ℕ) → is_asked_step w ≡ true → client_said (phrase_in w rest) ≡ None → ⊥
 tells_client word.Cast rest a e = cc
 tells_client w rest a e = cc

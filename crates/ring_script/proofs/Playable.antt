@@ -1,19 +1,15 @@
--- What a text spells as a script can be played; a ring can open with the members of a step file, and its events are of the
--- ring alone.
-use Rattle.std.proofs.Common.{◌≡◌, ℕ, zero, suc, ◌+◌, ◌*◌, ◌≤◌, Bool, true, false, ◌&&◌, ◌==◌, not, nat_le, nat_lt, is_some, unwrap_or, List, [], ◌∷◌, ◌++◌, Option, Some, None, length, get_or, map, refl, sym, ap, subst, ◌∙◌, if◌then◌else◌, option_and_then, codes, bytes_eq, arith}
+-- What a text spells as a script can be played, and a ring can open with the members of a step file.
+use Rattle.std.proofs.Common.{◌≡◌, ℕ, ◌≤◌, Bool, true, false, nat_le, nat_lt, List, [], ◌∷◌, ◌++◌, Option, Some, None, length, map, unwrap_or, refl, sym, ap, subst, ◌∙◌, if◌then◌else◌}
 use Rattle.std.specs.List.{list_all, Contains}
-use Rattle.std.specs.Str.Parse.{digits_value, digits_value_after}
-use Rattle.std.specs.Char.{digit_value}
-use Rattle.std.proofs.lemmas.Bool.{and_parts, leb-true, ltb-false, not-true}
-use Rattle.std.proofs.lemmas.Bool.Decides.{nat_tests}
+use Rattle.std.specs.Option.{option_or}
+use Rattle.std.proofs.lemmas.Bool.{ltb-false}
 use Rattle.std.proofs.lemmas.List.{map-append, append-nil, append_assoc}
 use Rattle.std.proofs.lemmas.List.Folds.{flat_map-map}
 use Rattle.ring_names.specs.Body.{IsBody}
 use Rattle.ring_names.specs.Name.{IsName}
 use Rattle.ring_rules.specs.declared.event.Event.{Event}
-use Rattle.ring_rules.specs.Event.{is_multicast, is_asked_multicast}
 use Rattle.ring_script.specs.declared.fault.Kind.{Kind}
-use Rattle.ring_script.specs.declared.fault.Kind.TheVariants.{UnknownName, BodyTooLong, BadNumber}
+use Rattle.ring_script.specs.declared.fault.Kind.TheVariants.{UnknownName, BodyTooLong}
 use Rattle.ring_script.specs.declared.script.Keyword.{Keyword}
 use Rattle.ring_script.specs.declared.script.Keyword.TheVariants.{Asks, Go, Settle}
 use Rattle.ring_script.specs.declared.line.Head.{Head}
@@ -22,53 +18,19 @@ use Rattle.ring_script.specs.declared.command.Command.{Command}
 use Rattle.ring_script.specs.declared.text.Text.{Text}
 use Rattle.ring_script.specs.declared.vocabulary.Word.{Word}
 use Rattle.ring_script.specs.declared.vocabulary.Word.TheVariants as word
-use Rattle.ring_script.specs.Words.{lines_of, words_of, first_word, behind_word, is_text_byte, is_digit, is_number, number_of, has_byte}
-use Rattle.ring_script.specs.Line.{operand_in, second_in, body_in, is_name, is_among, head_in, one_word, name_fault, known_fault, further_fault, number_fault, body_fault}
-use Rattle.ring_script.specs.Vocabulary.{word_of, shape_of}
+use Rattle.ring_script.specs.Words.{lines_of, words_of, first_word, behind_word, is_text_byte, number_of}
+use Rattle.ring_script.specs.Line.{operand_in, second_in, body_in, is_name, is_among, head_in, one_word, two_words, name_fault, known_fault, further_fault, number_fault, body_fault, cast_fault}
+use Rattle.ring_script.specs.Vocabulary.{shape_of, most_position, IsNameable}
 use Rattle.ring_script.specs.Phrase.{phrase_fault}
 use Rattle.ring_script.specs.Script.{keyword_of, command_fault, script_grammar, command_by, command_of, joined_by, joined, most_turns}
-use Rattle.ring_script.specs.Steps.{is_step, is_asked_step, word_among, step_grammar, client_by, event_by, refusal_in, event_of}
-use Rattle.ring_script.specs.Reading.{used_of, members_of, said_in, statements_of, joined_in, known_of, IsScriptOf, AreStepsOf, MayBeGiven, MayEachBeGiven, commands_of, IsPlayable, CanOpen, AreMulticast}
+use Rattle.ring_script.specs.Steps.{step_grammar}
+use Rattle.ring_script.specs.Reading.{used_of, members_of, said_in, statements_of, joined_in, known_of, IsScriptOf, AreStepsOf, MayBeGiven, MayEachBeGiven, commands_of, IsPlayable, CanOpen}
 use Rattle.ring_script.proofs.Bodies.{behind_word_text, behind_space_text, IsBody-from}
 use Rattle.ring_script.proofs.Names.{AreNames, none_of_both, among_contains, IsName-from, new_name, further_by, further_right}
+use Rattle.ring_script.proofs.Numbers.{number_fits}
 use Rattle.ring_script.proofs.Phrases.{one_right, two_right, body_right}
 use Rattle.ring_script.proofs.Taking.{fault_as, said_on, members_taken, credit_taken, statement_taken}
 use Rattle.ring_script.proofs.Fitting.{text_fits, no_names, members_open, text_opens}
-
--- ---- numbers
-
-value_least : (n : ℕ) (digits : List ℕ) → n ≤ digits_value_after 10 n digits
-value_least n [] = omega arith
-value_least n (d ∷ digits) =
-    let deeper : n * 10 + digit_value d ≤ digits_value_after 10 (n * 10 + digit_value d) digits = value_least (n * 10 + digit_value d) digits in
-    omega arith
-
-first_value : (b : ℕ) → is_digit b ≡ true → (b == 48) ≡ false → 1 ≤ digit_value b
-first_value b d z = grind (arith, nat_tests)
-
--- a number is 1 at least
-number_least : (word : List ℕ) → is_number word ≡ true → 1 ≤ digits_value 10 word
-number_least [] h = cc
-number_least (b ∷ bs) h =
-    let parts = and_parts (has_byte (b ∷ bs)) (not (b == 48) && list_all is_digit (b ∷ bs)) h in
-    let rest = and_parts (not (b == 48)) (list_all is_digit (b ∷ bs)) parts.1 in
-    let first = first_value b (and_parts (is_digit b) (list_all is_digit bs) rest.1).0 (not-true (b == 48) rest.0) in
-    let least : 0 * 10 + digit_value b ≤ digits_value_after 10 (0 * 10 + digit_value b) bs = value_least (0 * 10 + digit_value b) bs in
-    omega arith
-
-turns_by : (word : List ℕ) (b : Bool) → (is_number word && nat_le (digits_value 10 word) 1000) ≡ b → is_some (if b then Some (digits_value 10 word) else None) ≡ true
-    → (1 ≤ unwrap_or (if b then Some (digits_value 10 word) else None) 0) × (unwrap_or (if b then Some (digits_value 10 word) else None) 0 ≤ 1000)
-turns_by word true e h =
-    let parts = and_parts (is_number word) (nat_le (digits_value 10 word) 1000) e in
-    (number_least word parts.0, leb-true (digits_value 10 word) 1000 parts.1)
-turns_by word false e h = cc
-
-some_by : (o : Option ℕ) → (if is_some o then None else Some BadNumber) ≡ None → is_some o ≡ true
-some_by None e = cc
-some_by (Some n) e = refl
-
-turns_right : (words : List (List ℕ)) → one_word (number_fault most_turns) words ≡ None → (1 ≤ unwrap_or (number_of most_turns (get_or words 0 [])) 0) × (unwrap_or (number_of most_turns (get_or words 0 [])) 0 ≤ most_turns)
-turns_right words e = turns_by (get_or words 0 []) _ refl (some_by (number_of most_turns (get_or words 0 [])) (one_right (number_fault most_turns) words e))
 
 -- ---- names and bodies
 
@@ -104,22 +66,43 @@ same_names known names = subst AreNames (sym (append-nil known)) names
 abbrev IsGiven : List (List ℕ) → Command → Type 0
 IsGiven known x = MayBeGiven known x × AreNames (known ++ joined_by x)
 
+-- a right line names one of those who are known
+by_known : (known : List (List ℕ)) (rest : List ℕ) → one_word (known_fault known) (words_of rest) ≡ None → Contains known (operand_in rest)
+by_known known rest e = known_right known (operand_in rest) (one_right (known_fault known) (words_of rest) e)
+
+-- and a body
+with_body : (known : List (List ℕ)) (rest : List ℕ) → list_all is_text_byte rest ≡ true → cast_fault (known_fault known) (body_in rest) (words_of rest) ≡ None
+    → Contains known (operand_in rest) × IsBody (body_in rest)
+with_body known rest text e =
+    let both = body_right (known_fault known) (body_in rest) (words_of rest) e in
+    (known_right known (operand_in rest) both.0, is_body (body_in rest) (behind_space_text (behind_word rest) (behind_word_text rest text)) both.1)
+
+-- or a position
+with_position : (known : List (List ℕ)) (rest : List ℕ) → two_words (λ one at. option_or (known_fault known one) (number_fault most_position at)) (words_of rest) ≡ None
+    → Contains known (operand_in rest) × IsNameable (record { 0 = unwrap_or (number_of most_position (second_in rest)) 0 })
+with_position known rest e =
+    let both = two_right (known_fault known) (number_fault most_position) (words_of rest) e in
+    (known_right known (operand_in rest) both.0, number_fits most_position (second_in rest) both.1)
+
 asked_right : (known : List (List ℕ)) (w : Word) (rest : List ℕ) → AreNames known → list_all is_text_byte rest ≡ true
     → phrase_fault (known_fault known) (further_fault known) (shape_of w) rest ≡ None → IsGiven known (command_by (Some (Asks w)) rest)
-asked_right known word.Cast rest names text e =
-    let both = body_right (known_fault known) (body_in rest) (words_of rest) e in
-    ((known_right known (operand_in rest) both.0, is_body (body_in rest) (behind_space_text (behind_word rest) (behind_word_text rest text)) both.1), same_names known names)
+asked_right known word.Cast rest names text e = (with_body known rest text e, same_names known names)
+asked_right known word.Publish rest names text e = (with_body known rest text e, same_names known names)
+asked_right known word.Get rest names text e = (by_known known rest e, same_names known names)
+asked_right known word.Pop rest names text e = (by_known known rest e, same_names known names)
+asked_right known word.Ack rest names text e = (with_position known rest e, same_names known names)
+asked_right known word.Requeue rest names text e = (with_position known rest e, same_names known names)
 asked_right known word.Admit rest names text e =
     let both = two_right (known_fault known) (further_fault known) (words_of rest) e in
     let joins = joiner_right known (second_in rest) names both.1 in
     ((known_right known (operand_in rest) both.0, joins.0.0, joins.0.1), joins.1)
-asked_right known word.Stop rest names text e = (known_right known (operand_in rest) (one_right (known_fault known) (words_of rest) e), same_names known names)
+asked_right known word.Stop rest names text e = (by_known known rest e, same_names known names)
 asked_right known w rest names text e = (tt, same_names known names)
 
 command_right : (known : List (List ℕ)) (keyword : Option Keyword) (rest : List ℕ) → AreNames known → list_all is_text_byte rest ≡ true → command_fault known keyword rest ≡ None
     → IsGiven known (command_by keyword rest)
 command_right known (Some (Asks w)) rest names text e = asked_right known w rest names text e
-command_right known (Some Go) rest names text e = (turns_right (words_of rest) e, same_names known names)
+command_right known (Some Go) rest names text e = (number_fits most_turns (operand_in rest) (one_right (number_fault most_turns) (words_of rest) e), same_names known names)
 command_right known (Some Settle) rest names text e = (tt, same_names known names)
 command_right known None rest names text e = cc
 
@@ -195,34 +178,3 @@ script_playable bytes script h =
 -- a ring can open with the members of a step file
 pub steps_open : (bytes : List ℕ) (steps : Text Event) → AreStepsOf bytes steps → CanOpen steps.members
 steps_open bytes steps h = subst CanOpen (sym h.members) (text_opens step_grammar bytes h.right)
-
--- ---- events of the ring alone
-
-step_multicast : (o : Option Word) (rest : List ℕ) → is_multicast (event_by (option_and_then (λ w. if is_step w then Some w else None) o) rest) ≡ true
-step_multicast None rest = refl
-step_multicast (Some word.Cast) rest = refl
-step_multicast (Some w) rest = refl
-
-asked_multicast : (o : Option Word) (rest : List ℕ) → is_asked_multicast (client_by (option_and_then (λ w. if is_asked_step w then Some w else None) o) rest) ≡ true
-asked_multicast None rest = refl
-asked_multicast (Some word.Cast) rest = refl
-asked_multicast (Some w) rest = refl
-
-either_multicast : (b : Bool) (e f : Event) → is_multicast e ≡ true → is_multicast f ≡ true → is_multicast (if b then e else f) ≡ true
-either_multicast true e f h k = h
-either_multicast false e f h k = k
-
--- the event that a line tells is
-event_multicast : (text rest : List ℕ) → is_multicast (event_of text rest) ≡ true
-event_multicast text rest =
-    either_multicast (bytes_eq text (codes "refuse")) (refusal_in rest) (event_by (word_among is_step text) rest)
-    (asked_multicast (word_of (second_in rest)) (behind_word (behind_word rest))) (step_multicast (word_of text) rest)
-
-said_multicast : (used : List (ℕ × List ℕ)) → AreMulticast (map (said_on event_of) used)
-said_multicast [] k d l = absurd (omega (arith, l))
-said_multicast (line ∷ used) zero d l = event_multicast (first_word line.1) (behind_word line.1)
-said_multicast (line ∷ used) (suc k) d l = said_multicast used k d (omega (arith, l))
-
--- each event of a step file is
-pub steps_multicast : (bytes : List ℕ) (steps : Text Event) → AreStepsOf bytes steps → AreMulticast steps.lines
-steps_multicast bytes steps h = subst AreMulticast (sym h.lines) (said_multicast (said_in (used_of (lines_of bytes))))

@@ -1,11 +1,10 @@
 -- What a text says as a script or a step file, or the first fault in it.
-use Rattle.std.specs.Prelude.{◌≡◌, ◌⊎◌, ℕ, ◌+◌, ◌<◌, ◌≤◌, true, not, Option, Some, None, List, [], ◌∷◌, ◌++◌, length, take, map, All, Contains, ⊤}
+use Rattle.std.specs.Prelude.{◌≡◌, ◌⊎◌, ℕ, ◌+◌, ◌<◌, ◌≤◌, not, Option, Some, None, List, [], ◌∷◌, ◌++◌, length, take, map, All, Contains, ⊤}
 use Rattle.std.specs.List.{filter, flat_map, enumerate_from, slice_index_or}
 use Rattle.ring_names.specs.Name.{IsName}
 use Rattle.ring_names.specs.Body.{IsBody}
 use Rattle.group_view.specs.Change.{AreOpeningNames, most_entries}
 use Rattle.ring_rules.specs.declared.event.Event.{Event}
-use Rattle.ring_rules.specs.Event.{is_multicast}
 use Rattle.ring_script.specs.declared.command.Command.{Command}
 use Rattle.ring_script.specs.declared.command.Command.TheVariants as command
 use Rattle.ring_script.specs.declared.fault.Kind.{Kind}
@@ -20,6 +19,7 @@ use Rattle.ring_script.specs.Fault.{code_of}
 use Rattle.ring_script.specs.Line.{Grammar, is_skipped, head_in, is_statement, credit_in, fault_of}
 use Rattle.ring_script.specs.Script.{script_grammar, command_of, joined_by, joined, most_turns}
 use Rattle.ring_script.specs.Steps.{step_grammar, event_of}
+use Rattle.ring_script.specs.Vocabulary.{IsNameable, HasNameablePositions}
 
 -- ---- the used lines
 
@@ -142,13 +142,18 @@ AreStepsOf = Spells step_grammar event_of
 abbrev pub CanOpen : List (List ℕ) → Type 0
 CanOpen names = AreOpeningNames names × All IsName names
 
--- each event on these lines is of the ring alone, and not of the queue that stands on it
-abbrev pub AreMulticast : List (ℕ × Event) → Type 0
-AreMulticast lines = All (λ line. is_multicast line.1 ≡ true) lines
+-- each event on these lines names a position that a line can name, if it names one
+abbrev pub HaveNameablePositions : List (ℕ × Event) → Type 0
+HaveNameablePositions lines = All (λ line. HasNameablePositions line.1) lines
 
 -- a command that may be given where these names are known
 abbrev pub MayBeGiven : List (List ℕ) → Command → Type 0
 MayBeGiven names (command.Cast by body) = Contains names by × IsBody body
+MayBeGiven names (command.Publish by body) = Contains names by × IsBody body
+MayBeGiven names (command.Get by) = Contains names by
+MayBeGiven names (command.Pop by) = Contains names by
+MayBeGiven names (command.Ack by at) = Contains names by × IsNameable at
+MayBeGiven names (command.Requeue by at) = Contains names by × IsNameable at
 MayBeGiven names (command.Join by name) = Contains names by × (Contains names name → ⊥) × IsName name
 MayBeGiven names (command.Kill by) = Contains names by
 MayBeGiven names (command.Go turns) = (1 ≤ turns) × (turns ≤ most_turns)

@@ -19,11 +19,16 @@ use Rattle.ring_script.specs.Phrase.{phrase_fault, phrase_in}
 abbrev pub keyword_of : List ℕ → Option Keyword
 keyword_of text =
     if bytes_eq text (codes "cast") then Some (Asks word.Cast)
+    else (if bytes_eq text (codes "publish") then Some (Asks word.Publish)
+    else (if bytes_eq text (codes "get") then Some (Asks word.Get)
+    else (if bytes_eq text (codes "pop") then Some (Asks word.Pop)
+    else (if bytes_eq text (codes "ack") then Some (Asks word.Ack)
+    else (if bytes_eq text (codes "requeue") then Some (Asks word.Requeue)
     else (if bytes_eq text (codes "join") then Some (Asks word.Admit)
     else (if bytes_eq text (codes "kill") then Some (Asks word.Stop)
     else (if bytes_eq text (codes "go") then Some Go
     else (if bytes_eq text (codes "settle") then Some Settle
-    else None))))
+    else None)))))))))
 
 -- how many turns a round has at most
 abbrev pub most_turns : ℕ
@@ -37,12 +42,16 @@ command_fault known (Some Go) rest = one_word (number_fault most_turns) (words_o
 command_fault known (Some Settle) rest = no_word (words_of rest)
 command_fault known None rest = Some UnknownCommand
 
--- the command that has a member do what a client asks; of the queue a script asks nothing yet
+-- the command that has a member do what a client asks
 abbrev pub command_asking : Client → Command
 command_asking (client.Cast by body) = command.Cast by body
+command_asking (client.Publish by body) = command.Publish by body
+command_asking (client.Get by) = command.Get by
+command_asking (client.Pop by) = command.Pop by
+command_asking (client.Ack by at) = command.Ack by at
+command_asking (client.Requeue by at) = command.Requeue by at
 command_asking (client.Admit by name) = command.Join by name
 command_asking (client.Stop by) = command.Kill by
-command_asking _ = command.Settle
 
 -- the command that a line gives, by its keyword and its rest
 abbrev pub command_by : Option Keyword → List ℕ → Command

@@ -1,6 +1,6 @@
 -- What a line of a step file says behind the opening ones, and what is wrong with it. Its names need only be names: who
 -- plays the event says whether they are the ring's.
-use Rattle.std.specs.Prelude.{ℕ, Bool, true, false, not, if◌then◌else◌, Option, Some, None, unwrap_or, option_and_then, List, [], ◌∷◌, codes, bytes_eq}
+use Rattle.std.specs.Prelude.{ℕ, Bool, true, false, if◌then◌else◌, Option, Some, None, unwrap_or, option_and_then, List, [], ◌∷◌, codes, bytes_eq}
 use Rattle.ring_rules.specs.declared.event.Client.{Client}
 use Rattle.ring_rules.specs.declared.event.Client.TheVariants as client
 use Rattle.ring_rules.specs.declared.event.Event.{Event}
@@ -11,24 +11,25 @@ use Rattle.ring_script.specs.declared.vocabulary.Word.{Word}
 use Rattle.ring_script.specs.declared.vocabulary.Word.TheVariants as word
 use Rattle.ring_script.specs.Words.{words_of, behind_word, number_of}
 use Rattle.ring_script.specs.Line.{Grammar, operand_in, second_in, name_fault}
-use Rattle.ring_script.specs.Vocabulary.{word_of, is_of_queue, shape_of, event_said, client_said}
+use Rattle.ring_script.specs.Vocabulary.{word_of, shape_of, event_said, client_said}
 pub use Rattle.ring_script.specs.Vocabulary.{most_code}
 use Rattle.ring_script.specs.Phrase.{refused_name_fault, phrase_fault, phrase_in}
 
--- step files have a word: each but those of the queue
-abbrev pub is_step : Word → Bool
-is_step w = not (is_of_queue w)
-
--- they have it behind `refuse` too: what clients ask of the ring
+-- step files have a word for an event, and behind `refuse` too where clients ask for it
 abbrev pub is_asked_step : Word → Bool
 is_asked_step word.Cast = true
+is_asked_step word.Publish = true
+is_asked_step word.Get = true
+is_asked_step word.Pop = true
+is_asked_step word.Ack = true
+is_asked_step word.Requeue = true
 is_asked_step word.Stop = true
 is_asked_step word.Admit = true
 is_asked_step w = false
 
--- the word that a text is, if it is one of these
-abbrev pub word_among : (Word → Bool) → List ℕ → Option Word
-word_among these text = option_and_then (λ w. if these w then Some w else None) (word_of text)
+-- the word that a text is, if clients ask for it
+abbrev pub asked_word : List ℕ → Option Word
+asked_word text = option_and_then (λ w. if is_asked_step w then Some w else None) (word_of text)
 
 -- what is wrong with an event, by its word and its rest
 abbrev pub event_fault : Option Word → List ℕ → Option Kind
@@ -44,11 +45,11 @@ client_fault code None rest = Some UnknownCommand
 abbrev pub refuse_fault : List ℕ → List (List ℕ) → Option Kind
 refuse_fault rest [] = Some MissingWord
 refuse_fault rest (code ∷ []) = Some MissingWord
-refuse_fault rest (code ∷ asked ∷ words) = client_fault code (word_among is_asked_step asked) (behind_word (behind_word rest))
+refuse_fault rest (code ∷ asked ∷ words) = client_fault code (asked_word asked) (behind_word (behind_word rest))
 
 -- what is wrong with a line, by its first word and its rest: `refuse`, or the word of an event
 abbrev pub step_fault : List ℕ → List ℕ → Option Kind
-step_fault text rest = if bytes_eq text (codes "refuse") then refuse_fault rest (words_of rest) else event_fault (word_among is_step text) rest
+step_fault text rest = if bytes_eq text (codes "refuse") then refuse_fault rest (words_of rest) else event_fault (word_of text) rest
 
 -- no line asks whether a name is known, and none makes one known
 abbrev pub step_grammar : Grammar
@@ -68,8 +69,8 @@ refused_by code w rest = event.Refuse (unwrap_or (number_of most_code code) 0) (
 
 -- the refusal that a line tells behind `refuse`
 abbrev pub refusal_in : List ℕ → Event
-refusal_in rest = refused_by (operand_in rest) (word_among is_asked_step (second_in rest)) (behind_word (behind_word rest))
+refusal_in rest = refused_by (operand_in rest) (asked_word (second_in rest)) (behind_word (behind_word rest))
 
 -- the event that a line tells, by its first word and its rest
 abbrev pub event_of : List ℕ → List ℕ → Event
-event_of text rest = if bytes_eq text (codes "refuse") then refusal_in rest else event_by (word_among is_step text) rest
+event_of text rest = if bytes_eq text (codes "refuse") then refusal_in rest else event_by (word_of text) rest

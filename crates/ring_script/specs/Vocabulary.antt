@@ -1,6 +1,5 @@
--- The words of the ring's texts: how each is written, whether it is of the queue, what stands behind the member's name, and
--- what a phrase tells.
-use Rattle.std.specs.Prelude.{ℕ, Bool, true, false, Option, Some, None, option_and_then, List, [], ◌∷◌, find, codes, bytes_eq}
+-- The words of the ring's texts: how each is written, what stands behind the member's name, and what a phrase tells.
+use Rattle.std.specs.Prelude.{◌≤◌, ℕ, Option, Some, None, option_and_then, List, [], ◌∷◌, find, codes, bytes_eq, ⊤}
 use Rattle.ring_names.specs.declared.numbers.Position.{Position}
 use Rattle.ring_rules.specs.declared.event.Client.{Client}
 use Rattle.ring_rules.specs.declared.event.Client.TheVariants as client
@@ -47,18 +46,6 @@ all_words =
 -- the word that is written so
 abbrev pub word_of : List ℕ → Option Word
 word_of text = find (λ w. bytes_eq text (text_of w)) all_words
-
--- whether it is of the queue that stands on the ring, and not of the ring alone
-abbrev pub is_of_queue : Word → Bool
-is_of_queue word.Publish = true
-is_of_queue word.Get = true
-is_of_queue word.Pop = true
-is_of_queue word.Ack = true
-is_of_queue word.Requeue = true
-is_of_queue word.Depth = true
-is_of_queue word.Start = true
-is_of_queue word.Synced = true
-is_of_queue w = false
 
 -- what stands behind the member's name
 abbrev pub shape_of : Word → Shape
@@ -190,3 +177,18 @@ asked_by e = None
 -- what a phrase asks as a client's
 abbrev pub client_said : Phrase → Option Client
 client_said p = option_and_then asked_by (event_said p)
+
+-- ---- positions
+
+-- a position that a line can name
+abbrev pub IsNameable : Position → Type 0
+IsNameable at = (1 ≤ at.0) × (at.0 ≤ most_position)
+
+-- a position behind a name is one
+abbrev pub IsFitPosition : Further → Type 0
+IsFitPosition (further.Position at) = IsNameable at
+IsFitPosition f = ⊤
+
+-- the position that an event names is one
+abbrev pub HasNameablePositions : Event → Type 0
+HasNameablePositions e = IsFitPosition (phrase_of e).further

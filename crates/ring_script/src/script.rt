@@ -45,6 +45,11 @@ impl Keyword {
     {
         by_word!(word;
             b"cast" => Some(Keyword::Asks(Word::Cast)),
+            b"publish" => Some(Keyword::Asks(Word::Publish)),
+            b"get" => Some(Keyword::Asks(Word::Get)),
+            b"pop" => Some(Keyword::Asks(Word::Pop)),
+            b"ack" => Some(Keyword::Asks(Word::Ack)),
+            b"requeue" => Some(Keyword::Asks(Word::Requeue)),
             b"join" => Some(Keyword::Asks(Word::Admit)),
             b"kill" => Some(Keyword::Asks(Word::Stop)),
             b"go" => Some(Keyword::Go),
@@ -86,15 +91,19 @@ fn read_asked(alloc: Global, known: &[Name], word: Word, rest: Words) -> Result<
     }
 }
 
-/// The command that has a member do what a client asks. Of the queue a script asks nothing yet.
+/// The command that has a member do what a client asks.
 fn command_for(client: Client) -> Command
     ensures { result ≡ command_asking client }
 {
     match client {
         Client::Cast { by, body } => Command::Cast { by, body },
+        Client::Publish { by, body } => Command::Publish { by, body },
+        Client::Get { by } => Command::Get { by },
+        Client::Pop { by } => Command::Pop { by },
+        Client::Ack { by, at } => Command::Ack { by, at },
+        Client::Requeue { by, at } => Command::Requeue { by, at },
         Client::Admit { by, name } => Command::Join { by, name },
         Client::Stop { by } => Command::Kill { by },
-        _ => Command::Settle,
     }
 }
 

@@ -4,10 +4,11 @@ ghost use Rattle.std.specs.List.{list_all};
 ghost use Rattle.ring_script.specs.Words.{is_text_byte, words_of};
 ghost use Rattle.ring_script.specs.Place.{left_in};
 ghost use Rattle.ring_script.specs.Fault.{Tells};
-ghost use Rattle.ring_script.specs.Steps.{is_step, is_asked_step, word_among, step_grammar};
+ghost use Rattle.ring_script.specs.Steps.{is_asked_step, asked_word as the_asked_word, step_grammar};
 ghost use Rattle.ring_script.specs.Steps.{event_fault, client_fault, refuse_fault, event_by, refused_by, refusal_in};
 ghost use Rattle.ring_script.specs.Steps.{event_of};
-ghost use Rattle.ring_script.specs.Reading.{AreStepsOf, IsFirstFault, CanOpen, AreMulticast, JudgesEachText};
+ghost use Rattle.ring_script.specs.Reading.{AreStepsOf, IsFirstFault, CanOpen, JudgesEachText};
+ghost use Rattle.ring_script.specs.Reading.{HaveNameablePositions};
 
 use crate::arguments::number_from;
 use crate::fault::{Kind, LineFault, ScriptFault};
@@ -33,7 +34,7 @@ impl Statement for Event {
         let _ = known;
         by_word!(word;
             b"refuse" => read_refuse(alloc, rest),
-            _ => read_event(alloc, step_word(word).ok_or(Kind::UnknownCommand)?, rest)
+            _ => read_event(alloc, Word::of(word).ok_or(Kind::UnknownCommand)?, rest)
         )
     }
 
@@ -43,17 +44,9 @@ impl Statement for Event {
     }
 }
 
-/// The word that the text is, if step files have it for an event: not yet where it is of the queue.
-fn step_word(text: &[u8]) -> Option<Word>
-    ensures { result ≡ word_among is_step text.now }
-{
-    let word = Word::of(text)?;
-    if word.is_of_queue() { None } else { Some(word) }
-}
-
 /// The word that the text is, if step files have it for what a client asked.
 fn asked_word(text: &[u8]) -> Option<Word>
-    ensures word { result ≡ word_among is_asked_step text.now }
+    ensures word { result ≡ the_asked_word text.now }
     ensures asked { IfSome result (λ word. is_asked_step word ≡ true) }
 {
     let word = Word::of(text)?;
@@ -64,7 +57,17 @@ fn asked_word(text: &[u8]) -> Option<Word>
 fn is_asked(word: Word) -> bool
     ensures { result ≡ is_asked_step word }
 {
-    matches!(word, Word::Cast | Word::Stop | Word::Admit)
+    matches!(
+        word,
+        Word::Cast
+            | Word::Publish
+            | Word::Get
+            | Word::Pop
+            | Word::Ack
+            | Word::Requeue
+            | Word::Stop
+            | Word::Admit
+    )
 }
 
 /// The event of this word and of what is left on a line.
@@ -111,13 +114,12 @@ fn read_refused(alloc: Global, code: &[u8], word: Word, rest: Words) -> Result<E
 }
 
 /// Reads the steps that the bytes spell, exactly as `read_script` reads a script: each line is judged behind
-/// those before it, and the first one that is wrong is told with its first fault. The word of an event that the
-/// ring alone hasn't is no command, so that no event is of the queue.
-#[tactic(auto, using(crate::proofs::Exact::judges_each, crate::proofs::Playable::steps_open, crate::proofs::Playable::steps_multicast))]
+/// those before it, and the first one that is wrong is told with its first fault.
+#[tactic(auto, using(crate::proofs::Exact::judges_each, crate::proofs::Playable::steps_open, crate::proofs::Positions::steps_nameable))]
 pub fn read_steps(alloc: Global, bytes: &[u8]) -> Result<Steps, ScriptFault>
     ensures steps { IfOk result (AreStepsOf bytes.now) }
     ensures opens { IfOk result (λ steps. CanOpen steps.members) }
-    ensures multicast { IfOk result (λ steps. AreMulticast steps.lines) }
+    ensures positions { IfOk result (λ steps. HaveNameablePositions steps.lines) }
     ensures fault { (line kind : ℕ) → result ≡ Err (ScriptFault.At line kind)
         → IsFirstFault step_grammar bytes.now line kind }
 

@@ -143,11 +143,15 @@ const COMMANDS: &str = "\
 2 52 members a|cas a x
 2 52 members a|settle. |
 2 52 members a| # x
-2 52 members a|publish a x
-2 52 members a|get a
-2 52 members a|pop a
-2 52 members a|ack a 1
-2 52 members a|requeue a 1
+2 52 members a|Publish a x
+2 52 members a|publ a x
+2 52 members a|gets a
+2 52 members a|popp a
+2 52 members a|acks a 1
+2 52 members a|re a 1
+2 52 members a|depth a
+2 52 members a|start a
+2 52 members a|synced a
 2 52 members a|joins a n
 2 52 members a|Join a n
 2 52 members a|admit a n
@@ -159,6 +163,13 @@ const COMMANDS: &str = "\
 -- Words are missing, or too many, before what stands there is judged.
 2 53 members a|cast
 2 53 members a|cast   |
+2 53 members a|publish
+2 53 members a|publish   |
+2 53 members a|get
+2 53 members a|pop   |
+2 53 members a|ack
+2 53 members a|ack A
+2 53 members a|requeue a   |
 2 53 members a|join
 2 53 members a|join A
 2 53 members a|join a   |
@@ -166,6 +177,10 @@ const COMMANDS: &str = "\
 2 53 members a|kill   |
 2 53 members a|go
 2 53 members a| go |
+2 54 members a|get a a
+2 54 members a|pop B! z
+2 54 members a|ack a 1 1
+2 54 members a|requeue z 0 1
 2 54 members a|join a n n
 2 54 members a|join z A !
 2 54 members a|kill a a
@@ -182,10 +197,32 @@ good members a|go 1|go 1000|
 2 55 members a|go +5
 2 55 members a|go 1x
 2 55 members a|go 18446744073709551617
+-- Positions.
+good members a|ack a 1|requeue a 1|ack a 1000000|requeue a 1000000
+2 55 members a|ack a 0
+2 55 members a|ack a 1000001
+2 55 members a|ack a 01
+2 55 members a|ack a +1
+2 55 members a|ack a a
+2 55 members a|ack a 18446744073709551617
+2 55 members a|requeue a 0
+2 55 members a|requeue a 1000001
+2 55 members a|requeue a 007
 -- A name is judged as such, then as that of a member, and then comes the body.
 good members a b|kill b|kill b|cast b x|
+good members a b|credit 5 3|cast a x|publish a x|get a|pop a|ack a 1|requeue a 2|join a n|kill b|go 7|settle
 2 56 members a|kill B!
 2 57 members a|kill z
+2 56 members a|get B!
+2 57 members a|get z
+2 56 members a|pop A
+2 57 members a|pop aa
+2 56 members a|ack A 0
+2 57 members a|ack z 0
+2 56 members a|requeue a_ 1000001
+2 57 members a|requeue z 1000001
+2 56 members a|publish A x
+2 57 members a|publish z x
 2 56 members a|cast A x
 2 56 members a|cast a_ x
 2 56 members a|cast ~
@@ -197,9 +234,13 @@ good members a b|kill b|kill b|cast b x|
 3 57 members@|cast a1 x|cast b0 x
 2 56 members a|cast A x^x
 2 57 members a|cast z x^x
+2 56 members a|publish A x^x
+2 57 members a|publish z x^x
 -- Who has someone join is known, and who joins is new; then it is known too.
 good members a|join a n|cast n x|join n o|kill n|join n p|kill o
 good members a|join a 0|join 0 abcdefghijklmnop|cast abcdefghijklmnop x
+good members a|join a n|publish n x|get n|pop n|ack n 1|requeue n 1
+2 57 members a|get n|join a n
 2 56 members a|join A n
 2 56 members a|join A N
 2 57 members a|join z n
@@ -242,6 +283,8 @@ good members a|cast a  ^|
 2 60 members a|cast a x ^|
 good members a|  cast   a ~^|
 2 60 members a|  cast   a ~^~|
+good members a|publish a x^|
+2 60 members a|publish a x^x|
 -- Of several bad lines the first is told, whatever its kind.
 good members a|&
 2 52 members a|&fly
@@ -253,7 +296,7 @@ good members a|&
 
 /// Of step files.
 const EVENTS: &str = "\
--- The first word is no event that the ring has, whatever follows.
+-- The first word is no event, whatever follows.
 2 52 members a|fly
 2 52 members a|fly A 0 x
 2 52 members a|Put a
@@ -263,14 +306,16 @@ const EVENTS: &str = "\
 2 52 members a| # x
 2 52 members a|go 1
 2 52 members a|settle
-2 52 members a|publish a x
-2 52 members a|get a
+2 52 members a|Publish a x
 2 52 members a|join a n
 2 52 members a|Admit a n
 2 52 members a|admits a n
 -- Nor is what was refused what a client asks for.
 2 52 members a|refuse a n
 2 52 members a|refuse 12 put a
+2 52 members a|refuse 12 depth a
+2 52 members a|refuse x start A
+2 52 members a|refuse 12 synced a
 2 52 members a|refuse x kill A
 2 52 members a|refuse 12 refuse 12 stop a
 2 52 members a|sync a b
@@ -294,6 +339,10 @@ const EVENTS: &str = "\
 2 53 members a|refuse x admit A
 2 53 members a|refresh
 2 53 members a|refresh A
+2 53 members a|publish
+2 53 members a|ack A
+2 53 members a|synced
+2 53 members a|refuse x requeue A
 2 54 members a|put A b
 2 54 members a|take a b
 2 54 members a|takeend a b
@@ -307,6 +356,10 @@ const EVENTS: &str = "\
 2 54 members a|refuse x stop A b
 2 54 members a|refuse x admit A b c
 2 54 members a|refresh A 0 1
+2 54 members a|get A b
+2 54 members a|ack A 0 1
+2 54 members a|start a b
+2 54 members a|refuse x pop A b
 -- Versions.
 good members a|refresh a 1|refresh a 1000000
 2 55 members a|refresh a 0
@@ -315,6 +368,11 @@ good members a|refresh a 1|refresh a 1000000
 2 55 members a|refresh a +2
 2 55 members a|refresh a a
 2 55 members a|refresh a 18446744073709551617
+-- Positions.
+good members a|ack a 1|requeue z 1000000|refuse 29 ack a 1
+2 55 members a|ack a 0
+2 55 members a|requeue a 1000001
+2 55 members a|refuse 30 requeue a 01
 -- Numbers of refusals.
 good members a|refuse 1 stop a|refuse 99 stop a
 2 55 members a|refuse 0 stop A
@@ -326,6 +384,9 @@ good members a|put z|mark abcdefghijklmnop 0|erase y z|refuse 6 admit y z
 good members a b|admit a n|admit a n|admit a b|admit z a|admit a a|admit abcdefghijklmnop 0
 good members@|admit a b0|admit b0 b1
 2 56 members a|put A
+2 56 members a|publish A x^x
+2 56 members a|ack A 0
+2 56 members a|refuse 28 get A
 2 56 members a|stop abcdefghijklmnopq
 2 56 members a|cast ~
 2 56 members a|cast A x^x
@@ -350,6 +411,9 @@ good members a|cast a  ^|
 2 60 members a|cast z  ^ |
 good members a|refuse 12 cast a x^|
 2 60 members a|refuse 12 cast z x^x|
+good members a|publish a x^|
+2 60 members a|publish a x^x|
+2 60 members a|refuse 26 publish z x^x|
 -- Of several bad lines the first is told, whatever its kind.
 good members a|&
 2 52 members a|&fly
@@ -460,6 +524,12 @@ const LAST_COMMANDS: &str = "\
 cb25 # x||members a b|   |cast b hi|#
 g-77 # x||members a b|   |cast b hi|#|go 7|
 s--0 # x||members a b|   |cast b hi|#|go 7|||settle
+ub25 # x||members a b|   |publish b hi|#
+hb-2 members a b|get b
+ob-2 members a b|pop b
+ab72 members a b|ack b 7
+qa42 members a b|requeue a 14
+un23 members a|join a n|publish n hi
 jan2 members a|join a n
 jno3 members a|join a n|join n o
 jaa4 members a|;
@@ -469,6 +539,8 @@ kb-2 members a b|kill b
 -- Spaces round words.
 jan2 members a|  join   a   n  |
 kb-2 members a b|  kill   b  |
+hb-2 members a b|  get   b  |
+qb72 members a b|  requeue   b   7  |
 g-22 members a|  go   12  |
 s--2 members a|  settle  |
 -- A body is all that follows one space.
@@ -479,6 +551,10 @@ ca42 members a|cast a   hi
 ca82 members a|  cast   a hi  you |
 ca92 members a|cast a cast a !~
 ca22 members a|cast a #1
+ua02 members a|publish a
+ua02 members a|publish a |
+ua42 members a|publish a   hi
+ua82 members a|  publish   a hi  you |
 ";
 
 const LAST_EVENTS: &str = "\
@@ -497,6 +573,19 @@ nzb2 members a b|admit z b
 f2b- members a b|refuse 12 stop b
 f9bn members a b|refuse 9 admit b n
 f2b2 members a b|refuse 12 cast b hi
+ub22 members a b|publish b hi
+hb-2 members a b|get b
+ob-2 members a b|pop b
+az72 members a b|ack z 7
+qb42 members a b|requeue b 14
+da-2 members a b|depth a
+bb-2 members a b|start b
+yb-2 members a b|synced b
+f6u2 members a b|refuse 26 publish b hi
+f8hb members a b|refuse 28 get b
+f8ob members a b|refuse 28 pop b
+f9a7 members a b|refuse 29 ack b 7
+f0q4 members a b|refuse 30 requeue b 14
 -- Spaces round words.
 mab2 members a|  mark   a   b  |
 nbn2 members a|  admit   b   n  |
@@ -506,6 +595,7 @@ ca02 members a|cast a
 ca02 members a|cast a |
 ca42 members a|cast a   hi
 ca82 members a|  cast   a hi  you |
+ua82 members a|  publish   a hi  you |
 f2b0 members a b|refuse 12 cast b
 f2b0 members a b|refuse 12 cast b |
 f2b8 members a b|  refuse  12  cast   b hi  you |
@@ -622,6 +712,11 @@ fn last_command(lines: &[(u32, Command)]) -> [u8; 4] {
 fn command_on(line: u8, command: &Command) -> [u8; 4] {
     match command {
         Command::Cast { by, body } => [b'c', letter(by), length(body), line],
+        Command::Publish { by, body } => [b'u', letter(by), length(body), line],
+        Command::Get { by } => [b'h', letter(by), b'-', line],
+        Command::Pop { by } => [b'o', letter(by), b'-', line],
+        Command::Ack { by, at } => [b'a', letter(by), digit(at.0), line],
+        Command::Requeue { by, at } => [b'q', letter(by), digit(at.0), line],
         Command::Join { by, name } => [b'j', letter(by), letter(name), line],
         Command::Kill { by } => [b'k', letter(by), b'-', line],
         Command::Go { turns } => [b'g', b'-', digit(u64::from(*turns)), line],
@@ -647,22 +742,29 @@ fn last_event(lines: &[(u32, Event)]) -> [u8; 4] {
         Event::Erase { by, origin } => [b'x', letter(by), letter(origin), line],
         Event::Admit { by, name } => [b'n', letter(by), letter(name), line],
         Event::Refuse { code, inner } => refused(digit(u64::from(*code)), inner),
-        // No line begins an event of the queue.
-        Event::Publish { .. } | Event::Get { .. } | Event::Pop { .. } => *b"none",
-        Event::Ack { .. } | Event::Requeue { .. } => *b"none",
-        Event::Depth { .. } | Event::Start { .. } | Event::Synced { .. } => *b"none",
+        Event::Publish { by, body } => [b'u', letter(by), length(body), line],
+        Event::Get { by } => [b'h', letter(by), b'-', line],
+        Event::Pop { by } => [b'o', letter(by), b'-', line],
+        Event::Ack { by, at } => [b'a', letter(by), digit(at.0), line],
+        Event::Requeue { by, at } => [b'q', letter(by), digit(at.0), line],
+        Event::Depth { by } => [b'd', letter(by), b'-', line],
+        Event::Start { by } => [b'b', letter(by), b'-', line],
+        Event::Synced { by } => [b'y', letter(by), b'-', line],
     }
 }
 
-/// Of what was refused with this number its member's first letter, and the length of its body or its second name.
+/// Of what was refused with this number its member's first letter, and the length of its body or its second name. Where
+/// that was asked of the queue, a letter for its word, and that length, its position or its member.
 fn refused(code: u8, inner: &Client) -> [u8; 4] {
     match inner {
         Client::Cast { by, body } => [b'f', code, letter(by), length(body)],
         Client::Stop { by } => [b'f', code, letter(by), b'-'],
         Client::Admit { by, name } => [b'f', code, letter(by), letter(name)],
-        // Nor stands what a client asks of the queue on one.
-        Client::Publish { .. } | Client::Get { .. } | Client::Pop { .. } => *b"none",
-        Client::Ack { .. } | Client::Requeue { .. } => *b"none",
+        Client::Publish { by: _, body } => [b'f', code, b'u', length(body)],
+        Client::Get { by } => [b'f', code, b'h', letter(by)],
+        Client::Pop { by } => [b'f', code, b'o', letter(by)],
+        Client::Ack { by: _, at } => [b'f', code, b'a', digit(at.0)],
+        Client::Requeue { by: _, at } => [b'f', code, b'q', digit(at.0)],
     }
 }
 

@@ -104,7 +104,7 @@ pub const MOST_CODE: u32 = 99;
 
 impl Word {
     ghost use Rattle.std.specs.Prelude.{◌≡◌};
-    ghost use Rattle.ring_script.specs.Vocabulary.{word_of, text_of, shape_of, is_of_queue as of_queue};
+    ghost use Rattle.ring_script.specs.Vocabulary.{word_of, text_of, shape_of};
 
     /// The word that the text is, if it is one.
     pub fn of(text: &[u8]) -> Option<Word>
@@ -159,23 +159,6 @@ impl Word {
             Word::Erase => b"erase",
             Word::Synced => b"synced",
         }
-    }
-
-    /// Whether it is of the queue that stands on the ring, and not of the ring alone.
-    pub fn is_of_queue(self) -> bool
-        ensures { result ≡ of_queue self }
-    {
-        matches!(
-            self,
-            Word::Publish
-                | Word::Get
-                | Word::Pop
-                | Word::Ack
-                | Word::Requeue
-                | Word::Depth
-                | Word::Start
-                | Word::Synced
-        )
     }
 
     /// What stands behind the member's name.

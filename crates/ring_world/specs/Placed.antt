@@ -1,7 +1,8 @@
 -- What the code needs of a state to find its parts.
-use Rattle.std.specs.Prelude.{◌≡◌, ℕ, suc, ◌<◌, ◌≤◌, true, List, length, Some, None}
+use Rattle.std.specs.Prelude.{◌≡◌, ℕ, ◌+◌, suc, ◌<◌, ◌≤◌, true, List, length, Some, None}
 use Rattle.ring_world.specs.declared.state.Ring.{Ring}
 use Rattle.group_view.specs.View.{is_dead}
+use Rattle.group_view.specs.Change.{most_entries}
 use Rattle.ring_rules.specs.Machine.{World, member_at, link_at, view_in, newest, row_at, runs}
 use Rattle.ring_rules.specs.declared.phase.Phase.TheVariants.{Up}
 use Rattle.ring_rules.specs.Step.{size, log_of}
@@ -12,7 +13,7 @@ use Rattle.ring_world.specs.Shows.{world_of}
 -- Members are few, have no more rows than there are members, their own row among them, and have got all that they published;
 -- a running one has a view, and its links stand.
 pub record IsPlaced (w : World) : Type 0 where
-  pub few : size w ≤ 65
+  pub few : size w ≤ most_entries + 1
   pub versions : newest w ≤ 256
   pub some : 1 ≤ newest w
   pub rows : (x : ℕ) → 1 ≤ x → x < size w → length (member_at w x).rows ≤ size w

@@ -2,7 +2,7 @@
 ghost use Rattle.std.specs.Prelude.{◌≡◌, ◌<◌, ◌+◌, ◌∷◌, suc, length, map, slice_index_or, None};
 ghost use Rattle.std.specs.Prelude.{IfOk, OnOk, OnErr};
 ghost use Rattle.std.specs.List.{range_with_len};
-ghost use Rattle.group_view.specs.Change.{admitted, admit_refusal as group_refusal};
+ghost use Rattle.group_view.specs.Change.{admitted, admit_refusal as group_refusal, most_entries};
 ghost use Rattle.ring_rules.specs.declared.phase.Phase.TheVariants as phase;
 ghost use Rattle.ring_rules.specs.Machine.{member_at, no_member, newest as the_newest};
 ghost use Rattle.ring_rules.specs.Rows.{born_row};
@@ -33,7 +33,7 @@ fn published(members: &[PlainMember], id: usize) -> u64
 
 /// Rows for all ids and for that of one that joins, which notes how much each has published.
 fn born_rows(alloc: Global, members: &[PlainMember]) -> Result<Vec<KnownOrigin>, OutOfMemory>
-    requires { length members.now < 65 }
+    requires { length members.now < most_entries + 1 }
     ensures { IfOk result (λ v. map row_of v.items
         ≡ map (λ p. born_row (slice_index_or (no_member ∷ map member_of members.now) p no_member).log)
         (range_with_len 0 (length members.now + 2))) }

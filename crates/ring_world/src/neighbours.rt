@@ -1,6 +1,7 @@
 //! What a member's view says, and what stands at its door.
-ghost use Rattle.std.specs.Prelude.{◌≡◌, ◌<◌, ◌≤◌, suc, ◌∷◌, true, length, position};
+ghost use Rattle.std.specs.Prelude.{◌≡◌, ◌+◌, ◌<◌, ◌≤◌, suc, ◌∷◌, true, length, position};
 ghost use Rattle.std.specs.Prelude.{IfSome, slice_index_or};
+ghost use Rattle.group_view.specs.Change.{most_entries};
 ghost use Rattle.group_view.specs.Since.{no_group};
 ghost use Rattle.ring_rules.specs.View.{left_of as the_left, right_of as the_right};
 ghost use Rattle.ring_rules.specs.Machine.{member_at, view_in, is_kept_of, newest as the_newest};
@@ -16,7 +17,7 @@ use ring_names::MemberId;
 
 /// The id of the member at a place.
 pub(crate) fn id_at(place: usize) -> u32
-    requires { place < 65 }
+    requires { place < most_entries + 1 }
     ensures { result ≡ suc place }
 {
     place as u32 + 1

@@ -2,6 +2,7 @@
 ghost use Rattle.std.specs.Prelude.{◌≡◌, ◌<◌, ◌≤◌, ◌+◌, ◌∷◌, suc, false, length, map, slice_set, slice_index_or};
 ghost use Rattle.std.specs.Prelude.{IfOk, OnOk, OnErr};
 ghost use Rattle.std.specs.List.{range_with_len};
+ghost use Rattle.group_view.specs.Change.{most_entries};
 ghost use Rattle.ring_rules.specs.Refusal.{is_empty};
 ghost use Rattle.ring_rules.specs.Machine.{link_at, no_member, row_at, oldest};
 ghost use Rattle.ring_rules.specs.Step.{is_owned as owned_is, taken, begun, popped, take_from, begin_from};
@@ -82,7 +83,7 @@ fn all_news(
     packet: &Packet,
 ) -> Result<Vec<Brought>, OutOfMemory>
     requires place { place < length members.now }
-    requires few { length members.now < 65 }
+    requires few { length members.now < most_entries + 1 }
     ensures { IfOk result (λ v. map the_news v.items
         ≡ map (news_at view.now (no_member ∷ map member_of members.now) (suc place) sender
         (packet_of packet.now)) (range_with_len 0 (length members.now + 1))) }
@@ -108,7 +109,7 @@ fn take_packet(
     link: &mut PlainLink,
 ) -> Result<(), OutOfMemory>
     requires within { place < length members.old }
-    requires few { length members.old < 65 }
+    requires few { length members.old < most_entries + 1 }
     requires rows { length (member_in members.old place).rows ≤ suc (length members.old) }
     requires some { is_empty (link_of link.old).packets ≡ false }
     ensures members { OnOk result (map member_of members.new ≡ slice_set (map member_of members.old) place
@@ -159,7 +160,7 @@ fn take_first(
     link: &mut PlainLink,
 ) -> Result<(), OutOfMemory>
     requires within { place < length members.old }
-    requires few { length members.old < 65 }
+    requires few { length members.old < most_entries + 1 }
     requires rows { length (member_in members.old place).rows ≤ suc (length members.old) }
     requires some { is_empty (link_of link.old).packets ≡ false }
     ensures members { OnOk result (map member_of members.new ≡ slice_set (map member_of members.old) place

@@ -1,6 +1,6 @@
 -- What the journal of a played script has.
-use Rattle.std.proofs.Common.{◌≡◌, ℕ, zero, suc, ◌<◌, ◌≤◌, ◌^◌, true, List, [], ◌∷◌, ◌++◌, length, take, drop, Some, refl, sym, ap, subst, ◌∙◌, arith}
-use Rattle.std.proofs.lemmas.List.{take-take, take-append-drop}
+use Rattle.std.proofs.Common.{◌≡◌, ℕ, zero, suc, ◌<◌, ◌≤◌, ◌^◌, List, [], ◌∷◌, ◌++◌, length, min, take, drop, Some, refl, sym, ap, subst, ◌∙◌, arith}
+use Rattle.std.proofs.lemmas.List.{take-take, take-append-drop, length-take}
 use Rattle.ring_names.specs.declared.numbers.CreditSpec.{CreditSpec}
 use Rattle.ring_script.specs.declared.command.Command.{Command}
 use Rattle.ring_script.specs.declared.command.Command.TheVariants as command
@@ -8,17 +8,20 @@ use Rattle.group_view.specs.Change.{AreOpeningNames}
 use Rattle.ring_rules.specs.declared.event.Event.{Event}
 use Rattle.ring_rules.specs.Machine.{World}
 use Rattle.ring_rules.specs.Step.{opening}
-use Rattle.ring_rules.specs.Event.{IsRun, effect, last, is_multicast, refusals_of}
+use Rattle.ring_rules.specs.Event.{IsRun, effect, last, refusals_of}
 use Rattle.ring_rules.specs.Laws.{IsLawful, GoesOn}
-use Rattle.ring_rules.specs.Quiet.{RingRests}
+use Rattle.ring_rules.specs.QueueLaws.{QueueIsRight, LaterMastersStart}
+use Rattle.ring_rules.specs.Quiet.{IsQuiet}
 use Rattle.ring_rules.proofs.runs.InOrder.{last_append}
 use Rattle.ring_rules.proofs.runs.AllRuns.{every_state_lawful, every_run_goes_on}
+use Rattle.ring_rules.proofs.queue.Runs.{run_queue_right}
+use Rattle.ring_rules.proofs.queue.Starts.{run_starts}
 use Rattle.ring_cluster.specs.Seen.{Seen, IsGoing, state_of, opening_seen}
 use Rattle.ring_cluster.specs.Plays.{IsOfMember, Plays, HasGoneOn, AgendasAreEmpty}
 use Rattle.ring_cluster.specs.Heard.{OpenersHaveNoBase}
 use Rattle.ring_cluster.proofs.work.Bases.{reached_bases}
 use Rattle.ring_cluster.proofs.work.Heard.{run_quiet_has_heard}
-use Rattle.std.specs.List.{All, list_all}
+use Rattle.std.specs.List.{All}
 use Rattle.ring_script.specs.declared.text.Text.{Text}
 use Rattle.ring_script.specs.Script.{joined_by}
 use Rattle.ring_script.specs.Reading.{MayBeGiven, MayEachBeGiven}
@@ -30,6 +33,11 @@ use Rattle.ringplay.specs.Performed.{state_after, IsLawfulRun, SameRing, HasTurn
 -- a command of a script, but for rounds and settlings, is one of a member
 pub member_command : (x : Command) → ((turns : ℕ) → x ≡ command.Go turns → ⊥) → (x ≡ command.Settle → ⊥) → IsOfMember x
 member_command (command.Cast by body) ng ns = refl
+member_command (command.Publish by body) ng ns = refl
+member_command (command.Get by) ng ns = refl
+member_command (command.Pop by) ng ns = refl
+member_command (command.Ack by at) ng ns = refl
+member_command (command.Requeue by at) ng ns = refl
 member_command (command.Join by newcomer) ng ns = refl
 member_command (command.Kill by) ng ns = refl
 member_command (command.Go turns) ng ns = absurd (ng turns refl)
@@ -37,11 +45,8 @@ member_command command.Settle ng ns = absurd (ns refl)
 
 -- a round of a script has turns
 one_turns : (names : List (List ℕ)) (x : Command) → MayBeGiven names x → HasTurns x
-one_turns names (command.Cast by body) may = tt
-one_turns names (command.Join by newcomer) may = tt
-one_turns names (command.Kill by) may = tt
 one_turns names (command.Go turns) may = may
-one_turns names command.Settle may = tt
+one_turns names x may = tt
 
 -- and so has each
 pub all_turns : (names : List (List ℕ)) (lines : List (ℕ × Command)) → MayEachBeGiven names (commands_on lines) → All (λ line. HasTurns line.1) lines
@@ -80,6 +85,16 @@ module _ (credit : CreditSpec) (names : List (List ℕ)) (journal : List Event) 
   bases_after : (k : ℕ) → OpenersHaveNoBase names (state_after credit names journal k)
   bases_after k = reached_bases credit names (take k journal) are (run_front opened k journal run)
 
+  queue_after : length journal < 2 ^ 59 → (k : ℕ) → QueueIsRight k (state_after credit names journal k)
+  queue_after few k =
+      let len : length (take k journal) ≡ min k (length journal) = length-take k journal in
+      let right : QueueIsRight (length (take k journal)) (state_after credit names journal k) =
+      run_queue_right credit names (take k journal) are (omega (arith, len, few)) (run_front opened k journal run) in
+      record { agree = right.agree; stands = right.stands; above = right.above; few = λ q. omega (arith, len, right.few q) }
+
+  starts_after : (k : ℕ) → LaterMastersStart (state_after credit names journal k)
+  starts_after k = run_starts credit names are (take k journal) (run_front opened k journal run)
+
   goes_on_after : (j k : ℕ) → j ≤ k → GoesOn (state_after credit names journal j) (state_after credit names journal k)
   goes_on_after j k l =
       let first : List Event = take k journal in
@@ -91,7 +106,7 @@ module _ (credit : CreditSpec) (names : List (List ℕ)) (journal : List Event) 
 
   -- each run is lawful
   pub lawful_run : length journal < 2 ^ 59 → IsLawfulRun credit names journal
-  lawful_run few = record { run = run; few = few; lawful = lawful_after; bases = bases_after; goes_on = goes_on_after }
+  lawful_run few = record { run = run; few = few; lawful = lawful_after; bases = bases_after; queues = queue_after few; starts = starts_after; goes_on = goes_on_after }
 
 -- ---- a cluster and what happened in it
 
@@ -99,30 +114,29 @@ module _ (credit : CreditSpec) (names : List (List ℕ)) (journal : List Event) 
 pub record HasRun (credit : CreditSpec) (names : List (List ℕ)) (journal : List Event) (c : Seen) : Type 0 where
   pub are : AreOpeningNames names
   pub run : IsLawfulRun credit names journal
-  pub multicast : list_all is_multicast journal ≡ true
   pub state : state_of c ≡ last (opening credit names) journal
 
 pub has_run : (credit : CreditSpec) (names : List (List ℕ)) (journal : List Event) (c : Seen) → c.credit ≡ credit → c.names ≡ names → journal ≡ c.events → IsGoing c → HasRun credit names journal c
 has_run credit names journal c ec en ej going =
     let are : AreOpeningNames names = subst AreOpeningNames en going.are in
     let run : IsRun (opening credit names) journal = rw (sym ec, sym en, ej) going.run in
-    record { are = are; run = lawful_run credit names journal are run (rw ej going.few); multicast = rw ej going.multicast; state = rw (ec, en, sym ej) refl }
+    record { are = are; run = lawful_run credit names journal are run (rw ej going.few); state = rw (ec, en, sym ej) refl }
 
 -- ---- a played script
 
 -- a cluster that has performed a script and settled has played it
 pub played_by : (script : Text Command) (c : Seen) (journal : List Event) (text : List ℕ) → c.credit ≡ script.credit → c.names ≡ script.members → c.given ≡ given_of script
-    → IsGoing c → RingRests (state_of c) → AgendasAreEmpty c → Plays c.credit c.names c.events c.given → journal ≡ c.events
+    → IsGoing c → IsQuiet (state_of c) → AgendasAreEmpty c → Plays c.credit c.names c.events c.given → journal ≡ c.events
     → text ≡ report_of (state_of c) (refusals_of c.events) → IsPlayedBy script journal text (Some c)
 played_by script c journal text ec en eg going quiet empty plays ej et =
     let ran = has_run script.credit script.members journal c ec en ej going in
-    let quiet' : RingRests (last (opening script.credit script.members) journal) = subst RingRests ran.state quiet in
+    let quiet' : IsQuiet (last (opening script.credit script.members) journal) = subst IsQuiet ran.state quiet in
     record {
       played = record {
         run = ran.run;
         plays = rw (sym ec, sym en, ej, sym eg) plays;
         quiet = quiet';
-        heard_all = run_quiet_has_heard script.credit script.members journal ran.are ran.run.run quiet';
+        heard_all = run_quiet_has_heard script.credit script.members journal ran.are ran.run.run quiet'.rests;
         report = et ∙ ap (λ w. report_of w (refusals_of c.events)) ran.state ∙ ap (λ es. report_of (last (opening script.credit script.members) journal) (refusals_of es)) (sym ej);
       };
       by = record { seen = c; is = refl; names = en; credit = ec; events = sym ej; given = eg; empty = empty };
@@ -140,12 +154,17 @@ performed_of credit names a b c ea ring goes = record {
   names = goes.1.names ∙ ring.0 ∙ ap (λ s. s.names) ea;
 }
 
+-- what opened as a was given the commands of a script to b, and a settling to c, was given what a ring is
+pub given_all : (script : Text Command) (a b c : Seen) → a ≡ opening_seen script.credit script.members → b.given ≡ a.given ++ commands_on script.lines → c.given ≡ b.given ++ command.Settle ∷ []
+    → c.given ≡ given_of script
+given_all script a b c ea given settled = settled ∙ ap (λ xs. xs ++ command.Settle ∷ []) (given ∙ ap (λ s. s.given ++ commands_on script.lines) ea)
+
 -- a cluster that opened as a, performed the commands of a script to b and settled to c
 pub played_all : (script : Text Command) (a b c : Seen) (journal : List Event) (text : List ℕ) → a ≡ opening_seen script.credit script.members → IsOf script.credit script.members c
     → b.given ≡ a.given ++ commands_on script.lines → c.given ≡ b.given ++ command.Settle ∷ []
-    → IsGoing c → RingRests (state_of c) → AgendasAreEmpty c → Plays c.credit c.names c.events c.given → journal ≡ c.events
+    → IsGoing c → IsQuiet (state_of c) → AgendasAreEmpty c → Plays c.credit c.names c.events c.given → journal ≡ c.events
     → text ≡ report_of (state_of c) (refusals_of c.events) → IsPlayedBy script journal text (Some c)
 played_all script a b c journal text ea of given settled going quiet empty plays ej et =
     played_by script c journal text of.credit of.names
-    (settled ∙ ap (λ xs. xs ++ command.Settle ∷ []) (given ∙ ap (λ s. s.given ++ commands_on script.lines) ea))
+    (given_all script a b c ea given settled)
     going quiet empty plays ej et

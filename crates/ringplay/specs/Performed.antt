@@ -11,7 +11,8 @@ use Rattle.ring_rules.specs.Machine.{World}
 use Rattle.ring_rules.specs.Step.{opening}
 use Rattle.ring_rules.specs.Event.{IsRun, last, refusals_of}
 use Rattle.ring_rules.specs.Laws.{IsLawful, GoesOn}
-use Rattle.ring_rules.specs.Quiet.{RingRests}
+use Rattle.ring_rules.specs.QueueLaws.{QueueIsRight, LaterMastersStart}
+use Rattle.ring_rules.specs.Quiet.{IsQuiet}
 use Rattle.ring_world.specs.Reached.{WorldSeen}
 use Rattle.ring_report.specs.Report.{report_of}
 use Rattle.ring_journal.specs.declared.verdict.Verdict.{Verdict}
@@ -35,12 +36,16 @@ state_after credit names journal k = last (opening credit names) (take k journal
 
 -- The journal is a run of the ring from these members and this credit. The laws hold after each of its prefixes, among them
 -- that each member has heard, of each publisher, its log from the member's base up to what it got. The base of a member of the
--- opening is 0, so it has heard the front of each log. And from each prefix to each longer one nothing falls.
+-- opening is 0, so it has heard the front of each log. Of the queue mirrors agree, every confirmed, unacknowledged message
+-- stands in every running synchronised mirror, and whoever leads in a later term published Start before anything else of it.
+-- And from each prefix to each longer one nothing falls.
 pub record IsLawfulRun (credit : CreditSpec) (names : List (List ℕ)) (journal : List Event) : Type 0 where
   pub run : IsRun (opening credit names) journal
   pub few : length journal < 2 ^ 59
   pub lawful : (k : ℕ) → IsLawful credit.initial (state_after credit names journal k)
   pub bases : (k : ℕ) → OpenersHaveNoBase names (state_after credit names journal k)
+  pub queues : (k : ℕ) → QueueIsRight k (state_after credit names journal k)
+  pub starts : (k : ℕ) → LaterMastersStart (state_after credit names journal k)
   pub goes_on : (j k : ℕ) → j ≤ k → GoesOn (state_after credit names journal j) (state_after credit names journal k)
 
 -- It happened in this cluster: its ring opened with these members and this credit, it was given these commands and nothing
@@ -74,13 +79,13 @@ abbrev pub given_of : Text Command → List Command
 given_of script = commands_on script.lines ++ Settle ∷ []
 
 -- The journal is a lawful run. Each member's client events in it are its commands, and at each settling all earlier
--- commands were done or refused and the ring rested. It rests in the last state, each message of a running member is
--- confirmed there, and every member that is up has heard all these from its base on; and the text is the report of it
+-- commands were done or refused and the ring was quiet. It is quiet in the last state, each message of a running member
+-- is confirmed there, and every member that is up has heard all these from its base on; and the text is the report of it
 -- and of all refusals.
 pub record IsPlayed (script : Text Command) (journal : List Event) (text : List ℕ) : Type 0 where
   pub run : IsLawfulRun script.credit script.members journal
   pub plays : Plays script.credit script.members journal (given_of script)
-  pub quiet : RingRests (last (opening script.credit script.members) journal)
+  pub quiet : IsQuiet (last (opening script.credit script.members) journal)
   pub heard_all : HasHeardAll script.members (last (opening script.credit script.members) journal)
   pub report : text ≡ report_of (last (opening script.credit script.members) journal) (refusals_of journal)
 
@@ -125,12 +130,13 @@ pub record Tells (kept : Bool) (credit : CreditSpec) (names : List (List ℕ)) (
 
 -- ---- what is checked
 
--- The bytes are the legal journal of these events. They are a run, with every law of every run, and the text is the report of
--- the state that they leave, and of all refusals.
+-- The bytes are the legal journal of these events. They are a lawful run, with every law of every run at its end, and the text
+-- is the report of the state that they leave, and of all refusals.
 pub record IsChecked (bytes : List ℕ) (journal : List Event) (text : List ℕ) : Type 0 where
   pub world : WorldSeen
   pub legal : IsVerdictOf bytes (Legal world journal)
   pub run : IsOfRun world journal
+  pub lawful : IsLawfulRun run.credit run.names journal
   pub report : text ≡ report_of world.ring (refusals_of journal)
 
 -- ---- what is asked for

@@ -1,8 +1,9 @@
 //! The top call: all that the program does, over any source and sink.
-ghost use Rattle.std.specs.Prelude.{◌≡◌, ℕ, List, Some};
+ghost use Rattle.std.specs.Prelude.{◌≡◌, ℕ, ◌≤◌, List, Some, length};
 ghost use Rattle.std.specs.Io.KnownBytes.{IsAtEnd};
 ghost use Rattle.ring_io.specs.Contents.{Gains};
 ghost use Rattle.ring_io.specs.Count.{Rose};
+ghost use Rattle.ring_script.specs.Words.{lines_of};
 ghost use Rattle.ring_words.specs.declared.asked.Asked.{Asked};
 ghost use Rattle.ringplay.specs.Words.{Asks, AsksNothing};
 ghost use Rattle.ringplay.specs.Cause.{status_of};
@@ -130,6 +131,7 @@ fn done<T: Threads, G: Gate>(
     bytes: Vec<u8>,
     gate: &G,
 ) -> Result<Played, Cause>
+    requires { length (lines_of bytes.items) ≤ the_most_lines asked }
     ensures { DoesAsAsked asked bytes.items result }
 {
     match asked {
@@ -194,6 +196,11 @@ fn due_for<T: Threads, S: Source, G: Gate>(
 /// is refused, and then the report; with `--journal` the journal follows. `check` judges the journal that it gives, and
 /// writes the report of the state that it leaves. The whole text stands before its first byte is written. The cluster runs
 /// its rounds with the thread handle and the gate.
+///
+/// What has happened is a run of the ring, in which its laws hold after every event. So every confirmed, unacknowledged
+/// message stands in every running synchronised mirror, through every promotion: each message to the queue that has come
+/// round to its publisher and that nobody has acknowledged or dropped. And whoever leads after the first member
+/// publishes `start` before anything else of the queue.
 pub fn ring_call<T: Threads, S: Source, K: Sink, G: Gate>(
     threads: &T,
     alloc: Global,

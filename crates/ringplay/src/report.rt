@@ -1,5 +1,6 @@
-//! The report: the ring, and of each member what it has published, what it has received and what was refused.
-ghost use Rattle.std.specs.Prelude.{◌≡◌, ◌+◌, ◌<◌, ◌≤◌, ◌++◌, [], None, IfOk, OnOk, length, take, drop, slice_index_or};
+//! The report: the ring, and of each member what it has published, what it has received, what its mirror of the queue holds
+//! and what was refused.
+ghost use Rattle.std.specs.Prelude.{◌≡◌, ◌+◌, ◌<◌, ◌≤◌, ◌++◌, [], Option, IfOk, OnOk, length, take, drop, slice_index_or};
 ghost use Rattle.std.specs.List.{flat_map};
 ghost use Rattle.ring_rules.specs.Step.{size};
 ghost use Rattle.ring_rules.specs.Machine.{member_at as at_id};
@@ -8,17 +9,16 @@ ghost use Rattle.ring_rules.specs.Asked.{counts_of, state_of as stands_of};
 ghost use Rattle.gm_member.specs.Shown.{held_of};
 ghost use Rattle.ring_cluster.specs.Seen.{state_of};
 ghost use Rattle.ring_cluster.specs.Holds.{HoldsOf};
-ghost use Rattle.ring_cluster.specs.Published.{casts_with, logs_in, logs_of};
-ghost use Rattle.ring_report.specs.Report.{report_of, heard_line, heard_from, heard_lines, while_up, lines_of_member};
+ghost use Rattle.ring_cluster.specs.Published.{told_by, told_with, told_in, told_of_each};
+ghost use Rattle.ring_report.specs.Report.{report_of, cast_line, heard_from, heard_lines, while_up, lines_of_member};
 ghost use Rattle.ring_report.specs.Lent.{lent_in};
-ghost use Rattle.ring_report.specs.Unused.{QueueIsUnused};
 
+use queue_mirror::Mirror;
 use ring_cluster::Cluster;
 use ring_names::{Body, MemberId, OutOfMemory};
 use ring_parties::Node;
 use ring_report::{
-    multicasts_leave_the_queue_unused, push_cast, push_counts, push_refusals, push_ring,
-    push_state, refusals_in,
+    push_cast, push_counts, push_items, push_refusals, push_ring, push_state, refusals_in,
 };
 use ring_rules::{Counts, Event, MemberState, Phase};
 use std::alloc::Global;
@@ -51,13 +51,20 @@ pub(crate) fn push_report(
     let published = cluster.published()?;
     let all = refusals_in(alloc, cluster.events())?;
     let refusals = all.as_slice();
-    multicasts_leave_the_queue_unused();
-    cluster.is_going();
     push_ring(alloc, out, cluster.view())?;
     for place in 0..published.len() {
         push_member(alloc, out, cluster, &published, refusals, place)?;
     }
     Ok(())
+}
+
+/// The id of the member at a place.
+fn id_at(cluster: &Cluster, place: usize) -> MemberId
+    requires { place + 1 < size (state_of cluster.now) }
+    ensures { result.0 ≡ place + 1 }
+{
+    cluster.is_going();
+    MemberId(place as u32 + 1)
 }
 
 /// The member at a place, whose id is one more.
@@ -71,100 +78,91 @@ fn member_at(cluster: &Cluster, place: usize) -> &Node
     member
 }
 
-/// The id of the member at a place.
-fn id_at(cluster: &Cluster, place: usize) -> MemberId
+/// Its mirror of the queue.
+fn mirror_at(cluster: &Cluster, place: usize) -> &Mirror
     requires { place + 1 < size (state_of cluster.now) }
-    ensures { result.0 ≡ place + 1 }
+    ensures { (result.now).mirror ≡ (at_id (state_of cluster.now) (place + 1)).mirror }
 {
-    cluster.is_going();
-    MemberId(place as u32 + 1)
+    let Some(mirror) = cluster.mirror(id_at(cluster, place)) else {
+        unreachable!()
+    };
+    mirror
 }
 
-/// What the report says of the member at a place, where these are the bodies that each has published, and the refusals.
-fn push_member(
-    alloc: Global,
-    out: &mut Vec<u8>,
-    cluster: &Cluster,
-    published: &[Vec<&Body>],
-    refusals: &[&Event],
-    place: usize,
-) -> Result<(), OutOfMemory>
-    requires within { place + 1 < size (state_of cluster.now) }
-    requires logs { logs_in published.now ≡ logs_of (state_of cluster.now) }
-    requires unused { QueueIsUnused (state_of cluster.now) }
-    ensures { OnOk result (out.new.items ≡ out.old.items
-        ++ lines_of_member (state_of cluster.now) (lent_in refusals.now) (place + 1)) }
+/// How much it has published, and how much of that has come round to it, by its book.
+fn counts_at(cluster: &Cluster, place: usize) -> Counts
+    requires { place + 1 < size (state_of cluster.now) }
+    ensures { result ≡ counts_of (place + 1) (at_id (state_of cluster.now) (place + 1)) }
 {
-    let member = member_at(cluster, place);
-    let state = stands(member.phase());
-    push_state(
-        alloc,
-        out,
-        member.name(),
-        member.id(),
-        state,
-        cluster.view(),
-    )?;
-    push_counts(alloc, out, &counts(cluster, published, place))?;
-    push_heard(out, cluster, published, member)?;
-    push_refusals(alloc, out, refusals, member.name())?;
-    Ok(())
+    let Some(book) = cluster.book(id_at(cluster, place)) else {
+        unreachable!()
+    };
+    let totals = book.totals();
+    Counts {
+        casts: totals.casts,
+        casts_confirmed: totals.casts_confirmed,
+        publishes: totals.publishes,
+        publishes_confirmed: totals.publishes_confirmed,
+    }
 }
 
-/// Where a member of this phase stands. Nobody knows what a mirror lacks, as the queue isn't used.
-fn stands(phase: Phase) -> MemberState
-    ensures { result ≡ stands_of None phase }
+/// Where a member of this phase stands whose mirror lacks so many messages.
+fn stands(missing: Option<u64>, phase: Phase) -> MemberState
+    ensures { result ≡ stands_of missing phase }
 {
     match phase {
         Phase::Waiting => MemberState::Waiting,
-        Phase::Up => MemberState::Up { missing: None },
+        Phase::Up => MemberState::Up { missing },
         Phase::Stopped => MemberState::Stopped,
     }
 }
 
-/// What the member at a place has published. Those of its messages that have come round to it are confirmed.
-fn counts(cluster: &Cluster, published: &[Vec<&Body>], place: usize) -> Counts
+/// What the report says of the member at a place, where this is told of what each has published, and these are the
+/// refusals.
+fn push_member(
+    alloc: Global,
+    out: &mut Vec<u8>,
+    cluster: &Cluster,
+    published: &[Vec<Option<&Body>>],
+    refusals: &[&Event],
+    place: usize,
+) -> Result<(), OutOfMemory>
     requires within { place + 1 < size (state_of cluster.now) }
-    requires logs { logs_in published.now ≡ logs_of (state_of cluster.now) }
-    ensures { result ≡ counts_of (place + 1) (at_id (state_of cluster.now) (place + 1)) }
+    requires told { told_in published.now ≡ told_of_each (state_of cluster.now) }
+    ensures { OnOk result (out.new.items ≡ out.old.items
+        ++ lines_of_member (state_of cluster.now) (lent_in refusals.now) (place + 1)) }
 {
-    cluster.is_going();
     let id = id_at(cluster, place);
-    let casts = bodies_at(published, place).len() as u64;
-    Counts {
-        casts,
-        casts_confirmed: cluster.confirmed(id),
-        publishes: 0,
-        publishes_confirmed: 0,
-    }
+    let member = member_at(cluster, place);
+    let mirror = mirror_at(cluster, place);
+    let state = stands(mirror.missing(), member.phase());
+    push_state(alloc, out, member.name(), id, state, cluster.view())?;
+    push_counts(alloc, out, &counts_at(cluster, place))?;
+    push_heard(out, cluster, published, id, state)?;
+    push_items(alloc, out, state, mirror)?;
+    push_refusals(alloc, out, refusals, member.name())?;
+    Ok(())
 }
 
-/// The bodies that the member at a place has published.
-fn bodies_at<'a, 'b>(published: &'a [Vec<&'b Body>], place: usize) -> &'a [&'b Body]
-    requires { place < length published.now }
-    ensures { casts_with result.now ≡ slice_index_or (logs_in published.now) place [] }
-{
-    &published[place]
-}
-
-/// What a member that is up has received of each, its own messages among them.
+/// What the member of an id has received of each, its own messages among them, where it is up.
 fn push_heard(
     out: &mut Vec<u8>,
     cluster: &Cluster,
-    published: &[Vec<&Body>],
-    member: &Node,
+    published: &[Vec<Option<&Body>>],
+    id: MemberId,
+    stands: MemberState,
 ) -> Result<(), OutOfMemory>
-    requires member { (1 ≤ (held_of member.now).id) × ((held_of member.now).id < size (state_of cluster.now)) }
-    requires logs { logs_in published.now ≡ logs_of (state_of cluster.now) }
+    requires member { (1 ≤ id.0) × (id.0 < size (state_of cluster.now)) }
+    requires told { told_in published.now ≡ told_of_each (state_of cluster.now) }
     ensures { OnOk result (out.new.items ≡ out.old.items
-        ++ while_up (stands_of None (held_of member.now).phase) (heard_lines (state_of cluster.now) (held_of member.now).id)) }
+        ++ while_up stands (heard_lines (state_of cluster.now) id.0)) }
 {
-    match member.phase() {
-        Phase::Up => {}
-        Phase::Waiting | Phase::Stopped => return Ok(()),
+    match stands {
+        MemberState::Up { .. } => {}
+        MemberState::Waiting | MemberState::Stopped => return Ok(()),
     }
     for origin in 0..published.len() {
-        push_heard_of(out, cluster, published, member.id(), origin)?;
+        push_heard_of(out, cluster, published, id, origin)?;
     }
     Ok(())
 }
@@ -173,27 +171,35 @@ fn push_heard(
 fn push_heard_of(
     out: &mut Vec<u8>,
     cluster: &Cluster,
-    published: &[Vec<&Body>],
+    published: &[Vec<Option<&Body>>],
     id: MemberId,
     place: usize,
 ) -> Result<(), OutOfMemory>
     requires member { (1 ≤ id.0) × (id.0 < size (state_of cluster.now)) }
     requires origin { place + 1 < size (state_of cluster.now) }
-    requires logs { logs_in published.now ≡ logs_of (state_of cluster.now) }
+    requires told { told_in published.now ≡ told_of_each (state_of cluster.now) }
     ensures { OnOk result (out.new.items ≡ out.old.items
         ++ heard_from (state_of cluster.now) id.0 (place + 1)) }
 {
     cluster.is_going();
-    let origin = member_at(cluster, place);
-    let base = cluster.base(id, origin.id());
-    let got = cluster.got(id, origin.id());
+    let origin = id_at(cluster, place);
+    let base = cluster.base(id, origin);
+    let got = cluster.got(id, origin);
     let bodies = behind(first_of(bodies_at(published, place), got), base);
-    push_casts(out, origin.name().bytes(), bodies)?;
+    push_casts(out, member_at(cluster, place).name().bytes(), bodies)?;
     Ok(())
 }
 
-/// The first bodies, or all where there are fewer.
-fn first_of<'a, 'b>(bodies: &'a [&'b Body], many: u64) -> &'a [&'b Body]
+/// What is told of the messages of the member at a place.
+fn bodies_at<'a, 'b>(published: &'a [Vec<Option<&'b Body>>], place: usize) -> &'a [Option<&'b Body>]
+    requires { place < length published.now }
+    ensures { told_with result.now ≡ slice_index_or (told_in published.now) place [] }
+{
+    &published[place]
+}
+
+/// The first of them, or all where there are fewer.
+fn first_of<'a, 'b>(bodies: &'a [Option<&'b Body>], many: u64) -> &'a [Option<&'b Body>]
     ensures { result.now ≡ take many bodies.now }
 {
     let many = many as usize;
@@ -203,8 +209,8 @@ fn first_of<'a, 'b>(bodies: &'a [&'b Body], many: u64) -> &'a [&'b Body]
     &bodies[..many]
 }
 
-/// The bodies behind the first ones: none where there are fewer.
-fn behind<'a, 'b>(bodies: &'a [&'b Body], many: u64) -> &'a [&'b Body]
+/// Those behind the first ones: none where there are fewer.
+fn behind<'a, 'b>(bodies: &'a [Option<&'b Body>], many: u64) -> &'a [Option<&'b Body>]
     ensures { result.now ≡ drop many bodies.now }
 {
     let many = many as usize;
@@ -214,12 +220,23 @@ fn behind<'a, 'b>(bodies: &'a [&'b Body], many: u64) -> &'a [&'b Body]
     &bodies[many..]
 }
 
-fn push_casts(out: &mut Vec<u8>, origin: &[u8], bodies: &[&Body]) -> Result<(), OutOfMemory>
+/// The casts among messages of the origin of this name.
+fn push_casts(out: &mut Vec<u8>, origin: &[u8], bodies: &[Option<&Body>]) -> Result<(), OutOfMemory>
     ensures { OnOk result (out.new.items ≡ out.old.items
-        ++ flat_map (heard_line origin.now) (casts_with bodies.now)) }
+        ++ flat_map (cast_line origin.now) (told_with bodies.now)) }
 {
     for body in bodies {
-        push_cast(out, origin, body)?;
+        push_if_cast(out, origin, body)?;
     }
     Ok(())
+}
+
+/// One message of it, where that is a cast.
+fn push_if_cast(out: &mut Vec<u8>, origin: &[u8], body: &Option<&Body>) -> Result<(), OutOfMemory>
+    ensures { OnOk result (out.new.items ≡ out.old.items ++ cast_line origin.now (told_by body.now)) }
+{
+    match body {
+        Some(body) => push_cast(out, origin, body),
+        None => Ok(()),
+    }
 }

@@ -1,7 +1,7 @@
 //! Playing a step file.
-ghost use Rattle.std.specs.Prelude.{◌≡◌, ◌∷◌, ◌++◌, true, Some, None, IfOk, OnOk, codes, string_bytes};
-ghost use Rattle.ring_script.specs.Reading.{CanOpen, AreMulticast};
-ghost use Rattle.ring_rules.specs.Event.{is_multicast, refusal};
+ghost use Rattle.std.specs.Prelude.{◌≡◌, ◌∷◌, ◌++◌, Some, None, IfOk, OnOk, codes, string_bytes};
+ghost use Rattle.ring_script.specs.Reading.{CanOpen, HaveNameablePositions};
+ghost use Rattle.ring_rules.specs.Event.{refusal};
 ghost use Rattle.ring_cluster.specs.Seen.{state_of};
 ghost use Rattle.ring_report.specs.Report.{missing_text as the_missing_text};
 ghost use Rattle.ringplay.specs.Step.{happens, enabled_of, kept_text as the_kept_text};
@@ -24,7 +24,7 @@ use std::alloc::Global;
 /// where it is to be kept.
 pub(crate) fn step(alloc: Global, steps: Steps, kept: bool) -> Result<Played, OutOfMemory>
     requires opens { CanOpen steps.members }
-    requires multicast { AreMulticast steps.lines }
+    requires positions { HaveNameablePositions steps.lines }
     ensures { IfOk result (λ played. Tells kept steps.credit steps.members played.journal.items
         (λ report. AreSteppedBy steps played.journal.items report played.cluster) played.text.items) }
 {
@@ -56,7 +56,6 @@ fn try_lines(
     lines: &[(u32, Event)],
     text: &mut Vec<u8>,
 ) -> Result<(), OutOfMemory>
-    requires { AreMulticast lines.now }
     ensures stepped { OnOk result (HasStepped cluster.old cluster.new (enabled_of (state_of cluster.old) lines.now)) }
     ensures told { OnOk result (text.new.items ≡ text.old.items ++ refused_lines (state_of cluster.old) lines.now) }
 {
@@ -74,7 +73,6 @@ fn try_line(
     event: &Event,
     text: &mut Vec<u8>,
 ) -> Result<(), OutOfMemory>
-    requires { is_multicast event.now ≡ true }
     ensures stepped { OnOk result (HasStepped cluster.old cluster.new (happens (state_of cluster.old) event.now)) }
     ensures told { OnOk result (text.new.items ≡ text.old.items
         ++ if_refused number (refusal (state_of cluster.old) event.now)) }

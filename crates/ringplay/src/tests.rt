@@ -89,15 +89,16 @@ member b up synced
 casts 1 confirmed 1
 publishes 0 confirmed 0
 heard b 
-==== Who has stopped refuses what is left on its agenda
+==== Who has stopped refuses what is left on its agenda, and the oldest that runs admits
 play
 members a b
 kill b
 kill b
 cast b z
+join b n
 settle
 => Done, status 0
-ring view=3 term=1 master=a
+ring view=5 term=1 master=a
 member a up synced
 casts 0 confirmed 0
 publishes 0 confirmed 0
@@ -106,6 +107,36 @@ casts 0 confirmed 0
 publishes 0 confirmed 0
 refused 12 stop b
 refused 12 cast b z
+refused 12 admit b n
+member n up synced
+casts 0 confirmed 0
+publishes 0 confirmed 0
+==== A queue served by its master
+play
+members a b
+publish a one
+publish a two
+get a
+get a
+requeue a 1
+ack a 2
+ack a 1
+ack a 9
+get b
+settle
+=> Done, status 0
+ring view=1 term=1 master=a
+member a up synced
+casts 0 confirmed 0
+publishes 2 confirmed 2
+again 1 one
+refused 30 ack a 1
+refused 29 ack a 9
+member b up synced
+casts 0 confirmed 0
+publishes 0 confirmed 0
+again 1 one
+refused 26 get b
 ==== Nobody is left to mark the last one
 play
 members a
@@ -385,67 +416,117 @@ publishes 0 confirmed 0
 refused 12 cast n n1
 ==== examples/rolling_restart.script
 play
-# A rolling restart: three nodes are replaced in turn, while clients go on publishing. No newcomer's copy of the queue
-# is complete, so with the last of the old ones the queue has no master.
+# A rolling restart with a queue in use: three nodes are replaced in turn, while clients publish and take messages off. A
+# newcomer lacks what was published before it came; once that is acknowledged, it holds the whole queue, and may lead.
 members a b c
 
-cast a a1
-cast b b1
-cast c c1
+publish a m1
+publish a m2
 settle
 
 join a d
-cast b b2
+get a
+ack a 1
+get a
+ack a 2
+publish a m3
 settle
 kill a
-cast c c2
 settle
 
 join b e
-cast d d1
+get b
+ack b 3
+publish b m4
 settle
 kill b
-cast c c3
 settle
 
 join c f
-cast d d2
+get c
+ack c 4
+publish c m5
 settle
 kill c
-cast e e1
+settle
+
+get d
 settle
 => Done, status 0
-ring view=10 term=3 master=none
+ring view=13 term=4 master=d
 member a erased
-casts 1 confirmed 1
-publishes 0 confirmed 0
+casts 0 confirmed 0
+publishes 3 confirmed 3
 member b erased
-casts 2 confirmed 2
-publishes 0 confirmed 0
+casts 0 confirmed 0
+publishes 1 confirmed 1
 member c erased
-casts 3 confirmed 3
-publishes 0 confirmed 0
-member d up missing=?
-casts 2 confirmed 2
-publishes 0 confirmed 0
-heard b b2
-heard c c2
-heard c c3
-heard d d1
-heard d d2
-heard e e1
-member e up missing=?
-casts 1 confirmed 1
-publishes 0 confirmed 0
-heard c c3
-heard d d1
-heard d d2
-heard e e1
-member f up missing=?
+casts 0 confirmed 0
+publishes 1 confirmed 1
+member d up synced
 casts 0 confirmed 0
 publishes 0 confirmed 0
-heard d d2
-heard e e1
+unacked 5 m5
+member e up synced
+casts 0 confirmed 0
+publishes 0 confirmed 0
+unacked 5 m5
+member f up synced
+casts 0 confirmed 0
+publishes 0 confirmed 0
+unacked 5 m5
+==== examples/master_killed.script
+play
+# A master fails with a message handed out: the next one has it ready again, and hands it out first.
+members a b c
+
+publish a x
+publish a y
+get a
+settle
+
+kill a
+settle
+=> Done, status 0
+ring view=3 term=2 master=b
+member a erased
+casts 0 confirmed 0
+publishes 2 confirmed 2
+member b up synced
+casts 0 confirmed 0
+publishes 0 confirmed 0
+again 1 x
+ready 2 y
+member c up synced
+casts 0 confirmed 0
+publishes 0 confirmed 0
+again 1 x
+ready 2 y
+==== examples/nobody_leads.script
+play
+# Nobody is left that holds all: b joined behind the message, and a is killed. Without a master nobody may publish.
+members a
+
+publish a x
+settle
+
+join a b
+settle
+
+kill a
+settle
+
+publish b y
+settle
+=> Done, status 0
+ring view=4 term=1 master=none
+member a erased
+casts 0 confirmed 0
+publishes 1 confirmed 1
+member b up missing=1
+casts 0 confirmed 0
+publishes 0 confirmed 0
+refused 27 publish b y
 ==== examples/eight_members.script
 play
 # Eight members, each link with room for one packet.
@@ -582,7 +663,7 @@ join n o
 cast o o1
 settle
 => Done, status 0
-ring view=3 term=1 master=a
+ring view=5 term=1 master=a
 member a up synced
 casts 2 confirmed 2
 publishes 0 confirmed 0
@@ -613,7 +694,7 @@ heard b b2
 heard c c1
 heard n n1
 heard o o1
-member n up missing=?
+member n up synced
 casts 1 confirmed 1
 publishes 0 confirmed 0
 heard a a2
@@ -621,7 +702,7 @@ heard b b2
 heard c c1
 heard n n1
 heard o o1
-member o up missing=?
+member o up synced
 casts 1 confirmed 1
 publishes 0 confirmed 0
 heard a a2
@@ -648,7 +729,7 @@ cast c c1
 cast b b2
 settle
 => Done, status 0
-ring view=5 term=1 master=a
+ring view=7 term=1 master=a
 member a up synced
 casts 1 confirmed 1
 publishes 0 confirmed 0
@@ -670,13 +751,13 @@ heard b b1
 heard c c1
 heard n n1
 heard o o1
-member n up missing=?
+member n up synced
 casts 1 confirmed 1
 publishes 0 confirmed 0
 heard c c1
 heard n n1
 heard o o1
-member o up missing=?
+member o up synced
 casts 1 confirmed 1
 publishes 0 confirmed 0
 heard c c1
@@ -1437,6 +1518,155 @@ member d up synced
 casts 0 confirmed 0
 publishes 0 confirmed 0
 heard a x
+==== 11 events: The master's queue is served, and its mirror follows
+step --journal
+members a b
+publish a one
+publish a two
+publish b no
+get a
+ack a 2
+ack a 9
+put a
+take b
+put b
+take a
+ack a 1
+get b
+refuse 26 get b
+refuse 28 get a
+put a
+take b
+depth b
+start a
+synced b
+=> Done, status 0
+line 4 refused 26
+line 6 refused 30
+line 7 refused 29
+line 13 refused 26
+line 15 refused 44
+line 18 refused 26
+line 19 refused 41
+line 20 refused 11
+ring view=1 term=1 master=a
+member a up synced
+casts 0 confirmed 0
+publishes 2 confirmed 2
+ready 2 two
+member b up synced
+casts 0 confirmed 0
+publishes 0 confirmed 0
+ready 2 two
+refused 26 get b
+{\"credit\":[8,4],\"members\":[\"a\",\"b\"],\"v\":1}
+[\"publish\",\"a\",\"one\"]
+[\"publish\",\"a\",\"two\"]
+[\"get\",\"a\"]
+[\"put\",\"a\"]
+[\"take\",\"b\"]
+[\"put\",\"b\"]
+[\"take\",\"a\"]
+[\"ack\",\"a\",1]
+[\"refuse\",26,\"get\",\"b\"]
+[\"put\",\"a\"]
+[\"take\",\"b\"]
+==== 27 events: The master stops, and who leads then starts before it serves
+step
+members a b c
+publish a x
+publish a y
+get a
+put a
+take b
+put b
+take c
+put c
+take a
+stop a
+publish a z
+takeend b
+mark b a
+refresh c 2
+pick b
+take b
+put b
+take c
+put c
+take b
+get b
+erase b a
+get b
+start b
+start b
+get b
+put b
+take c
+refresh c 3
+take c
+requeue b 1
+publish b z
+=> Done, status 0
+line 12 refused 12
+line 22 refused 26
+line 24 refused 32
+line 26 refused 41
+line 29 refused 14 need=3 have=2
+ring view=3 term=2 master=b
+member a erased
+casts 0 confirmed 0
+publishes 2 confirmed 2
+member b up synced
+casts 0 confirmed 0
+publishes 1 confirmed 0
+again 1 x
+ready 2 y
+ready 3 z
+member c up synced
+casts 0 confirmed 0
+publishes 0 confirmed 0
+ready 2 y
+unacked 1 x
+==== 19 events: A newcomer is told what it lacks, and is registered once that has gone
+step
+members a
+publish a x
+admit a n
+take n
+synced n
+depth a
+put a
+take n
+synced n
+get a
+put a
+take n
+ack a 1
+put a
+take n
+synced n
+synced n
+publish a y
+put a
+take n
+pick a
+refresh a 3
+pick a
+take a
+=> Done, status 0
+line 5 refused 33 missing=?
+line 9 refused 33 missing=1
+line 17 refused 11
+line 21 refused 14 need=3 have=2
+ring view=3 term=1 master=a
+member a up synced
+casts 0 confirmed 0
+publishes 2 confirmed 1
+ready 2 y
+member n up synced
+casts 0 confirmed 0
+publishes 0 confirmed 0
+ready 2 y
 ";
 
 /// What is written of other words, and of inputs with a fault.
@@ -1516,8 +1746,8 @@ play
 members a
 
 # all that follows is wrong
-publish a x
-fly
+fly a x
+soar
 => Script { line: 4, kind: 52 }, status 2
 script 4 52
 ==== a byte that is no text

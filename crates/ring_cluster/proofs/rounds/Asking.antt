@@ -1,5 +1,9 @@
 -- What a member has to do by itself, as it is asked.
-use Rattle.std.proofs.Common.{◌≡◌, ◌≢◌, ℕ, ◌<◌, ◌≤◌, Bool, true, false, not, Option, Some, None, is_some, sym, ap, ◌∙◌}
+use Rattle.std.proofs.Common.{◌≡◌, ◌≢◌, ℕ, ◌+◌, ◌<◌, ◌≤◌, Bool, true, false, not, cond, nat_lt, count_by, List, [], ◌∷◌, Option, Some, None, is_some, refl, sym, ap, ◌∙◌, arith}
+use Rattle.std.specs.Prelude.{◌||◌}
+use Rattle.std.specs.List.{list_any}
+use Rattle.std.proofs.lemmas.Bool.Decides.{nat_tests}
+use Rattle.std.proofs.lemmas.List.Sums.{sum_by-cons}
 use Rattle.ring_names.specs.declared.reason.Reason.{Reason}
 use Rattle.ring_rules.specs.declared.event.Event.TheVariants.{Mark}
 use Rattle.ring_rules.specs.declared.phase.Phase.TheVariants.{Stopped}
@@ -21,6 +25,18 @@ pub some_told : (r o : Option Reason) (b : Bool) → is_some r ≡ not b → r �
 some_told None o true e is f none = cc
 some_told None o false e is f none = cc
 some_told (Some x) o b e is f none = cc
+
+-- ---- whom it has to tell
+
+-- whether there is any is told by how many there are
+pub any_counted : {A : Type 0} (p : A → Bool) (xs : List A) → list_any p xs ≡ nat_lt 0 (count_by p xs)
+any_counted p [] = refl
+any_counted p (x ∷ xs) =
+    ap (λ b. p x || b) (any_counted p xs) ∙ by_test (p x) (count_by p xs) ∙ ap (nat_lt 0) (sym (sum_by-cons (λ y. cond (p y) 1 0) x xs))
+  where
+    by_test : (b : Bool) (n : ℕ) → (b || nat_lt 0 n) ≡ nat_lt 0 (cond b 1 0 + n)
+    by_test true n = grind (arith, nat_tests)
+    by_test false n = grind (arith, nat_tests)
 
 -- ---- what a member has to do
 

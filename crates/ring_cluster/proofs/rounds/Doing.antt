@@ -1,18 +1,20 @@
 -- What the turns of a cluster do.
-use Rattle.std.proofs.Common.{◌≡◌, ◌≢◌, ℕ, ◌+◌, ◌<◌, ◌≤◌, Bool, true, false, List, [], ◌∷◌, ◌++◌, length, take, drop, Option, Some, None, IsSome, refl, sym, ap, subst, ◌∙◌, arith, bytes_eq, append-nil, if◌then◌else◌}
-use Rattle.std.specs.Prelude.{◌&&◌, Contains}
-use Rattle.std.proofs.lemmas.Bool.{false≢true}
+use Rattle.std.proofs.Common.{inl, inr, ◌≡◌, ◌≢◌, ℕ, ◌+◌, ◌<◌, ◌≤◌, Bool, true, false, List, [], ◌∷◌, ◌++◌, length, take, drop, Option, Some, None, IsSome, refl, sym, ap, subst, ◌∙◌, ⊎_elim, arith, bytes_eq, append-nil, if◌then◌else◌}
+use Rattle.std.specs.Prelude.{◌&&◌, ◌||◌, ◌⊎◌, Contains}
+use Rattle.std.specs.List.{list_any}
+use Rattle.std.proofs.lemmas.Bool.{false≢true, cases_lt}
 use Rattle.std.proofs.lemmas.List.{length-append}
 use Rattle.ring_script.specs.declared.command.Command.{Command}
 use Rattle.ring_script.specs.declared.command.Command.TheVariants as command
 use Rattle.ring_rules.specs.declared.event.Event.{Event}
+use Rattle.ring_rules.specs.declared.event.Event.TheVariants.{Start}
 use Rattle.ring_rules.specs.declared.event.Client.{Client}
 use Rattle.ring_rules.specs.declared.phase.Phase.{Phase}
 use Rattle.ring_rules.specs.declared.phase.Phase.TheVariants.{Waiting, Up, Stopped}
 use Rattle.ring_rules.specs.Machine.{World, member_at}
 use Rattle.ring_rules.specs.Step.{size, opening}
 use Rattle.ring_rules.specs.Event.{refusal, effect, by_of, asked_of, event_of, id_of, is_asked}
-use Rattle.ring_rules.specs.Quiet.{RingRests}
+use Rattle.ring_rules.specs.Quiet.{IsQuiet}
 use Rattle.ring_rules.specs.Work.{total, LeavesLess}
 use Rattle.ring_rules.proofs.events.Names.{same_bytes, own_bytes}
 use Rattle.ring_rules.proofs.runs.InOrder.{last_append}
@@ -21,7 +23,7 @@ use Rattle.ring_cluster.specs.Backlog.{backlog, backlog_of}
 use Rattle.ring_cluster.specs.Handed.{handing, given_to, handed}
 use Rattle.ring_cluster.specs.Seen.{Seen, state_of, IsGoing, SameButOwed, collecting, with_event}
 use Rattle.ring_parties.specs.States.{state}
-use Rattle.ring_cluster.specs.Plays.{IsOfMember, client_of, commanded, asked_event, Serves, Plays, PlaysSoFar, client_event, client_events, answer_to, todo, agenda_of, is_stop, takes_up, is_due, IsDue, performed, GoesOn, HasGoneOn, HasBegun, HeadsAre, AgendasAreEmpty}
+use Rattle.ring_cluster.specs.Plays.{IsOfMember, client_of, commanded, asked_event, Serves, Plays, PlaysSoFar, client_event, client_events, answer_to, todo, agenda_of, is_stop, takes_up, is_due, IsDue, performed, GoesOn, HasGoneOn, is_start_of, begun_with, begun_by, HasBegun, HeadsAre, AgendasAreEmpty}
 use Rattle.ring_cluster.specs.Turns.{IsMemberAt}
 use Rattle.ring_parties.proofs.lists.Lists.{flat_map-append}
 use Rattle.ring_cluster.proofs.lists.Plans.{tasked_there, tasks_new, tasks_other, other_name, names_apart, given_other, asked_todo}
@@ -128,16 +130,68 @@ pub performed_goes : (i : ℕ) (by : List ℕ) (c d : Seen) → IsGoing c → Is
 performed_goes i by c d g at p =
     let e : Event = answer_to (state_of c) p.0 in
     let k : Seen = performed c by e p.1 in
-    subst (HasGoneOn c) (sym p.5.1) (e ∷ [], GoesOn-given c k (collecting p.5.0 k) (e ∷ []) refl refl refl refl (performed_on c i by p.0 p.1 g at p.2 p.3.0))
+    subst (HasGoneOn c) (sym p.5.1) (e ∷ [], GoesOn-given c k (collecting p.5.0 k) (e ∷ []) refl refl refl refl (performed_on c i by p.0 p.1 g at p.2 p.3))
 
--- it has done or refused one thing more that clients asked of it
-pub performed_more : (i : ℕ) (by : List ℕ) (c d : Seen) → Performs i by c d → length (client_events by c.events) < length (client_events by d.events)
+-- ---- what a member has begun with
+
+-- of one event
+begun_one : (name : List ℕ) (e : Event) → length (client_event name e) ≤ length (begun_with name e)
+begun_one name e = by_start (is_start_of name e) (is_asked e && bytes_eq (by_of e) name) (asked_event e)
+  where
+    by_start : (a b : Bool) (k : Event) → length (if b then k ∷ [] else []) ≤ length (if a then e ∷ [] else (if b then k ∷ [] else []))
+    by_start true true k = omega arith
+    by_start true false k = omega arith
+    by_start false b k = omega arith
+
+-- it has begun with no less than it has done or refused
+pub asked_begun : (name : List ℕ) (events : List Event) → length (client_events name events) ≤ length (begun_by name events)
+asked_begun name [] = omega arith
+asked_begun name (e ∷ events) =
+    omega (arith, begun_one name e, asked_begun name events, length-append (client_event name e) (client_events name events), length-append (begun_with name e) (begun_by name events))
+
+-- by more events
+pub begun_more_by : (c d : Seen) (name : List ℕ) (more : List Event) → d.events ≡ c.events ++ more → length (begun_by name d.events) ≡ length (begun_by name c.events) + length (begun_by name more)
+begun_more_by c d name more e = ap (λ es. length (begun_by name es)) e ∙ ap length (flat_map-append (begun_with name) c.events more) ∙ length-append (begun_by name c.events) (begun_by name more)
+
+-- by its start
+pub started_more : (name : List ℕ) (events : List Event) → length (begun_by name events) < length (begun_by name (events ++ Start name ∷ []))
+started_more name events =
+    let one : begun_by name (Start name ∷ []) ≡ Start name ∷ [] = ap (λ b. (if b then Start name ∷ [] else client_event name (Start name)) ++ []) (own_bytes name) in
+    omega (arith, ap length (flat_map-append (begun_with name) events (Start name ∷ [])), length-append (begun_by name events) (begun_by name (Start name ∷ [])), ap length one)
+
+-- by one event before others
+begun_next : (name : List ℕ) (e : Event) (events : List Event) → 0 < length (begun_by name (e ∷ events)) → (0 < length (begun_by name events) → (0 < length (client_events name events)) ⊎ (list_any (is_start_of name) events ≡ true))
+    → (0 < length (client_events name (e ∷ events))) ⊎ (list_any (is_start_of name) (e ∷ events) ≡ true)
+begun_next name e events l others = by_start (is_start_of name e) refl
+  where
+    later : is_start_of name e ≡ false → (0 < length (client_events name events)) ⊎ (list_any (is_start_of name) events ≡ true) → (0 < length (client_events name (e ∷ events))) ⊎ (list_any (is_start_of name) (e ∷ events) ≡ true)
+    later s (inl some) = inl (omega (arith, some, length-append (client_event name e) (client_events name events)))
+    later s (inr any) = inr (ap (λ b. b || list_any (is_start_of name) events) s ∙ any)
+
+    by_start : (b : Bool) → is_start_of name e ≡ b → (0 < length (client_events name (e ∷ events))) ⊎ (list_any (is_start_of name) (e ∷ events) ≡ true)
+    by_start true s = inr (ap (λ b. b || list_any (is_start_of name) events) s)
+    by_start false s =
+        let same : begun_with name e ≡ client_event name e = ap (λ b. if b then e ∷ [] else client_event name e) s in
+        let many = length-append (begun_with name e) (begun_by name events) in
+        ⊎_elim
+        (λ (some : 0 < length (client_event name e)). inl (omega (arith, some, length-append (client_event name e) (client_events name events))))
+        (λ (none : length (client_event name e) ≤ 0). later s (others (omega (arith, l, many, none, ap length same))))
+        (cases_lt 0 (length (client_event name e)))
+
+-- where it has begun with anything, it has done or refused something, or started
+begun_cases : (name : List ℕ) (events : List Event) → 0 < length (begun_by name events) → (0 < length (client_events name events)) ⊎ (list_any (is_start_of name) events ≡ true)
+begun_cases name [] l = absurd (omega (arith, l))
+begun_cases name (e ∷ events) l = begun_next name e events l (λ some. begun_cases name events some)
+
+-- it has begun with one thing more
+pub performed_more : (i : ℕ) (by : List ℕ) (c d : Seen) → Performs i by c d → length (begun_by by c.events) < length (begun_by by d.events)
 performed_more i by c d p =
     let e : Event = answer_to (state_of c) p.0 in
-    omega (arith, ap (λ x. length (client_events by x.events)) p.5.1, ap length (flat_map-append (client_event by) c.events (e ∷ [])), length-append (client_events by c.events) (client_events by (e ∷ [])), ap (λ zs. length (zs ++ [])) (answer_asked by p.0 (refusal (state_of c) (event_of p.0)) (ap (λ k. bytes_eq k by) p.3.0 ∙ own_bytes by)))
+    let one = ap length (answer_asked by p.0 (refusal (state_of c) (event_of p.0)) (ap (λ k. bytes_eq k by) p.3 ∙ own_bytes by)) in
+    omega (arith, ap (λ x. length (begun_by by x.events)) p.5.1, ap length (flat_map-append (begun_with by) c.events (e ∷ [])), length-append (begun_by by c.events) (begun_by by (e ∷ [])), length-append (begun_with by e) [], begun_one by e, one)
 
 pub performed_less : (i : ℕ) (by : List ℕ) (c d : Seen) → IsGoing c → IsMemberAt c i by → Performs i by c d → backlog_of d < backlog_of c
-performed_less i by c d g at p = subst (λ x. backlog_of x < backlog_of c) (sym p.5.1) (performed_left c i by p.0 p.1 g at p.2 p.3.0 p.4)
+performed_less i by c d g at p = subst (λ x. backlog_of x < backlog_of c) (sym p.5.1) (performed_left c i by p.0 p.1 g at p.2 p.3 p.4)
 
 -- ---- heads
 
@@ -145,16 +199,14 @@ pub first_of : (xs ys zs : List Event) (e : Event) → xs ++ ys ≡ e ∷ zs →
 first_of [] ys zs e is l = absurd (omega (arith, l))
 first_of (x ∷ xs) ys zs e is l = (0, omega arith, cc)
 
--- how much clients have asked for that was done or refused by more events
-pub asked_more : (c d : Seen) (name : List ℕ) (more : List Event) → d.events ≡ c.events ++ more → length (client_events name d.events) ≡ length (client_events name c.events) + length (client_events name more)
-asked_more c d name more e = ap (λ es. length (client_events name es)) e ∙ ap length (flat_map-append (client_event name) c.events more) ∙ length-append (client_events name c.events) (client_events name more)
-
--- each member that had something to do at once has begun with its head
+-- each member that had something with which it begins has done or refused that, or started
 pub heads_are : (c d : Seen) (more : List Event) → GoesOn c d more → ((i : ℕ) (name : List ℕ) → IsMemberAt c i name → HasBegun i name c d) → HeadsAre c more
-heads_are c d more g begun i name t ts at a due =
-    first_of (client_events name more) (todo (agenda_of d name)) (todo ts ++ handed (state_of c) name more) (event_of t)
-    (g.serves name ∙ ap (λ us. todo us ++ handed (state_of c) name more) a)
-    (omega (arith, begun i name at due, asked_more c d name more g.events))
+heads_are c d more g begun i name t ts at a due = by_case (begun_cases name more (omega (arith, begun i name at due, begun_more_by c d name more g.events)))
+  where
+    by_case : (0 < length (client_events name more)) ⊎ (list_any (is_start_of name) more ≡ true) → Contains (client_events name more) (event_of t) ⊎ (list_any (is_start_of name) more ≡ true)
+    by_case (inl some) =
+        inl (first_of (client_events name more) (todo (agenda_of d name)) (todo ts ++ handed (state_of c) name more) (event_of t) (g.serves name ∙ ap (λ us. todo us ++ handed (state_of c) name more) a) some)
+    by_case (inr any) = inr any
 
 -- what was due is so still, where nothing was done of it
 takes_up_still : (f g : Phase) (t u : Client) → (f ≢ Waiting → g ≢ Waiting) → is_stop t ≡ is_stop u → takes_up f t ≡ true → takes_up g u ≡ true
@@ -200,14 +252,14 @@ go_plays c d turns goes eg h =
 pub same_plays : (c d : Seen) → HasGoneOn c d → d.given ≡ c.given → PlaysSoFar c → PlaysSoFar d
 same_plays c d goes eg h = plays_on c d goes.0 goes.1 eg h
 
-pub settle_plays : (c d : Seen) → IsGoing d → HasGoneOn c d → AgendasAreEmpty d → RingRests (state_of d) → d.given ≡ c.given ++ command.Settle ∷ [] → PlaysSoFar c → PlaysSoFar d
+pub settle_plays : (c d : Seen) → IsGoing d → HasGoneOn c d → AgendasAreEmpty d → IsQuiet (state_of d) → d.given ≡ c.given ++ command.Settle ∷ [] → PlaysSoFar c → PlaysSoFar d
 settle_plays c d g goes empty quiet eg h =
     let e : Seen = record d { given = c.given } in
     let on : PlaysSoFar e = plays_on c e goes.0 (GoesOn-given c d e goes.0 refl refl refl refl goes.1) refl h in
-    let going : IsGoing e = record { are = g.are; run = g.run; few = g.few; multicast = g.multicast; rounds = g.rounds } in
+    let going : IsGoing e = record { are = g.are; run = g.run; few = g.few; rounds = g.rounds } in
     plays_noted e d command.Settle (λ name. refl) (λ _. settled_now d.credit d.names d.events c.given quiet (all_served e going empty on)) refl refl refl refl eg on
 
-pub settle_played : (c d : Seen) → IsGoing d → HasGoneOn c d → AgendasAreEmpty d → RingRests (state_of d) → d.given ≡ c.given ++ command.Settle ∷ [] → PlaysSoFar c → Plays d.credit d.names d.events d.given
+pub settle_played : (c d : Seen) → IsGoing d → HasGoneOn c d → AgendasAreEmpty d → IsQuiet (state_of d) → d.given ≡ c.given ++ command.Settle ∷ [] → PlaysSoFar c → Plays d.credit d.names d.events d.given
 settle_played c d g goes empty quiet eg h = settled_plays d g empty (settle_plays c d g goes empty quiet eg h)
 
 -- only what was given and the rounds differ

@@ -16,6 +16,11 @@ use Rattle.ring_rules.specs.Step.{size, log_of}
 use Rattle.ring_rules.specs.Lawful.{row_of}
 use Rattle.gm_member.specs.Held.{Held, Incoming}
 use Rattle.gm_member.specs.Packets.{known_at}
+use Rattle.std.specs.List.{list_any}
+use Rattle.group_view.specs.declared.entry.Entry.{Entry}
+use Rattle.ring_rules.specs.Settling.{owes_telling}
+use Rattle.ring_rules.specs.Work.{is_untold}
+use Rattle.ring_cluster.proofs.rounds.Asking.{any_counted}
 use Rattle.gm_member.specs.Stands.{kept_by, held_in, incoming_in, outgoing_in, door_links}
 use Rattle.gm_member.proofs.Knowing.{got_kept}
 use Rattle.gm_member.specs.Shown.{out_name_of}
@@ -197,6 +202,17 @@ place_is credit names events q name o s is =
     one_less o (position (λ (m : Shown). bytes_eq m.held.name name) q.nodes) (sym is)
     ∙ sym (position_map (λ n. bytes_eq n name) (λ (m : Shown). m.held.name) q.nodes)
     ∙ ap (λ ns. place_among ns name) (names_are credit names events q s)
+
+-- ---- whom a member has to tell
+
+pub held_untold : (w : World) (x version told : ℕ) (entries : List Entry) (h : Held) → IsFit w → IsHeld w x h → version ≡ h.view.version → entries ≡ h.view.entries → told ≡ (member_at w x).told
+    → list_any (is_untold version told) entries ≡ owes_telling w (Some x)
+held_untold w x version told entries h f e ve ee te =
+    let own : version ≡ (member_at w x).version = ve ∙ ap (λ (k : Held). k.view.version) e ∙ version_of_view w (member_at w x).version f.good.views (f.good.inv.is_ring.held x) in
+    let all : entries ≡ (view_in w (member_at w x).version).entries = ee ∙ ap (λ (k : Held). k.view.entries) e in
+    ap (λ v. list_any (is_untold v told) entries) own ∙ ap (λ t. list_any (is_untold (member_at w x).version t) entries) te
+    ∙ ap (list_any (is_untold (member_at w x).version (member_at w x).told)) all
+    ∙ any_counted (is_untold (member_at w x).version (member_at w x).told) (view_in w (member_at w x).version).entries
 
 -- ---- whether a member is stale
 

@@ -7,7 +7,7 @@ use Rattle.ring_names.specs.declared.reason.Reason.{Reason}
 use Rattle.ring_names.specs.declared.reason.Reason.TheVariants as reason
 use Rattle.ring_names.specs.Reason.{code_of}
 use Rattle.ring_names.specs.declared.numbers.CreditSpec.{CreditSpec}
-use Rattle.group_view.specs.Change.{AreOpeningNames, AreDifferent, is_taken}
+use Rattle.group_view.specs.Change.{AreOpeningNames, AreDifferent}
 use Rattle.ring_rules.specs.declared.event.Event.{Event}
 use Rattle.ring_rules.specs.declared.event.Event.TheVariants.{Take, Mark, Refresh, Admit, Erase}
 use Rattle.ring_rules.specs.declared.event.Client.{Client}
@@ -15,9 +15,9 @@ use Rattle.ring_rules.specs.declared.event.Client.TheVariants as client
 use Rattle.ring_rules.specs.declared.phase.Phase.{Phase}
 use Rattle.ring_rules.specs.declared.phase.Phase.TheVariants.{Waiting, Up, Stopped}
 use Rattle.ring_rules.specs.Refusal.{refuse_if, or_else, is_empty}
-use Rattle.ring_rules.specs.Machine.{World, member_at, link_at, view_in, newest, runs, runs_phase, is_waiting, oldest}
+use Rattle.ring_rules.specs.Machine.{World, member_at, link_at, newest, runs, runs_phase, is_waiting, oldest}
 use Rattle.ring_rules.specs.Step.{size, opening}
-use Rattle.ring_rules.specs.Event.{by_of, asked_of, event_of, is_asked_multicast, id_of, of_member, on_link, is_asked, is_told, is_passing, doing_refusal, refused_at, is_stopped, version_refusal, running_refusal, up_refusal, take_refusal, refresh_refusal, mark_refusal, erase_refusal, admit_refusal, is_multicast, refusal, effect, IsRun, last}
+use Rattle.ring_rules.specs.Event.{by_of, asked_of, event_of, id_of, of_member, on_link, is_asked, is_told, is_passing, doing_refusal, refused_at, is_stopped, version_refusal, running_refusal, up_refusal, take_refusal, refresh_refusal, mark_refusal, erase_refusal, admit_refusal, refusal, effect, IsRun, last}
 use Rattle.ring_rules.specs.Work.{is_stale, LeavesLess}
 use Rattle.ring_rules.specs.Settling.{is_repair, stale_one}
 use Rattle.ring_rules.proofs.events.Names.{same_bytes}
@@ -33,12 +33,11 @@ use Rattle.ring_rules.proofs.work.Settling.{repair_less, someone}
 use Rattle.ring_rules.proofs.work.Fit as ring
 use Rattle.gm_member.proofs.Fit.{IsFit, reached_fit}
 use Rattle.ring_cluster.specs.Seen.{Seen, state_of, IsGoing, IsMemberIn, with_event}
-use Rattle.ring_parties.specs.States.{state}
-use Rattle.ring_cluster.specs.Seen.{IsMulticastIn}
+use Rattle.ring_parties.specs.States.{state, IsEventIn}
 use Rattle.ring_cluster.specs.Agendas.{Plan, IsAskedOf, place_among}
 use Rattle.ring_cluster.specs.Backlog.{backlog}
 use Rattle.ring_cluster.specs.Handed.{least_running}
-use Rattle.ring_cluster.specs.Plays.{asked_event, client_event, client_events, answer_by, answer_to, is_stop, takes_up}
+use Rattle.ring_cluster.specs.Plays.{asked_event, client_event, client_events, answer_by, answer_to, agenda_of, passes, LeavesAgenda}
 use Rattle.ring_cluster.specs.Turns.{IsMemberAt, MembersStay, NoneWaitsAgain}
 use Rattle.ring_cluster.specs.Published.{names_in, told_of_each}
 use Rattle.ring_rules.specs.Published.{published_in}
@@ -85,18 +84,18 @@ names_stay c d more g credit names events = subst (KeepsNames (state_of c)) (sym
 -- ---- who acts
 
 -- an event is one of the first member of its name; where there is none, it is refused
-pub event_place_in : (w : World) (e : Event) (o : Option ℕ) → is_multicast e ≡ true → o ≡ place_among (names_in w) (by_of e) → MatchOption o (refusal w e ≡ Some reason.UnknownMember) (λ i. IsMulticastIn w i e)
-event_place_in w e None cast is = ap (λ o. of_member o (refused_at w e)) (id_in w (by_of e) ∙ ap (option_map (λ i. i + 1)) (sym is))
-event_place_in w e (Some i) cast is =
+pub event_place_in : (w : World) (e : Event) (o : Option ℕ) → o ≡ place_among (names_in w) (by_of e) → MatchOption o (refusal w e ≡ Some reason.UnknownMember) (λ i. IsEventIn w i e)
+event_place_in w e None is = ap (λ o. of_member o (refused_at w e)) (id_in w (by_of e) ∙ ap (option_map (λ i. i + 1)) (sym is))
+event_place_in w e (Some i) is =
     let there = position-Some (λ n. bytes_eq n (by_of e)) (names_in w) i [] (sym is) in
     let l : i + 1 < size w = omega (arith, there.0, names_in_many w) in
-    (l, sym (same_bytes (get_or (names_in w) i []) (by_of e) there.1) ∙ name_in_at w i [] l, cast)
+    (l, sym (same_bytes (get_or (names_in w) i []) (by_of e) there.1) ∙ name_in_at w i [] l)
 
 -- an event of the member of an id is one of that at its place
-pub event_at_place : (w : World) (e : Event) (x : ℕ) → 1 ≤ x → x < size w → by_of e ≡ (member_at w x).name → is_multicast e ≡ true → IsMulticastIn w (x - 1) e
-event_at_place w e x some lt is cast =
+pub event_at_place : (w : World) (e : Event) (x : ℕ) → 1 ≤ x → x < size w → by_of e ≡ (member_at w x).name → IsEventIn w (x - 1) e
+event_at_place w e x some lt is =
     let back : x - 1 + 1 ≡ x = omega arith in
-    (omega arith, is ∙ ap (λ k. (member_at w k).name) (sym back), cast)
+    (omega arith, is ∙ ap (λ k. (member_at w k).name) (sym back))
 
 -- ---- who does or refuses a task
 
@@ -110,33 +109,13 @@ running_may Waiting later e h = h
 running_may Up later e h = h
 running_may Stopped later e h = absurd (false≢true e)
 
--- the reason why one that takes a task up doesn't do it is told
-up_told : (f : Phase) (later : Option Reason) (r : Reason) → f ≢ Waiting → (later ≡ Some r → is_passing r ≡ false) → or_else (refuse_if (is_stopped f) reason.Stopped) (or_else (refuse_if (is_waiting f) reason.Waiting) later) ≡ Some r → is_passing r ≡ false
-up_told Waiting later r differs told e = absurd (differs refl)
-up_told Up later r differs told e = told e
-up_told Stopped later r differs told e = let same : reason.Stopped ≡ r = cc in ap is_passing (sym same)
-
-running_told : (f : Phase) (r : Reason) → or_else (refuse_if (is_stopped f) reason.Stopped) None ≡ Some r → is_passing r ≡ false
-running_told Waiting r e = cc
-running_told Up r e = cc
-running_told Stopped r e = let same : reason.Stopped ≡ r = cc in ap is_passing (sym same)
-
-admit_told : (a b : Bool) (r : Reason) → or_else (refuse_if a reason.NameTaken) (refuse_if b reason.TooManyMembers) ≡ Some r → is_passing r ≡ false
+-- why nobody is admitted is told
+pub admit_told : (a b : Bool) (r : Reason) → or_else (refuse_if a reason.NameTaken) (refuse_if b reason.TooManyMembers) ≡ Some r → is_passing r ≡ false
 admit_told true b r e = let same : reason.NameTaken ≡ r = cc in ap is_passing (sym same)
 admit_told false true r e = let same : reason.TooManyMembers ≡ r = cc in ap is_passing (sym same)
 admit_told false false r e = cc
 
--- one that waits takes up its stop alone
-no_waiter : (f : Phase) (t : Client) → is_stop t ≡ false → takes_up f t ≡ true → f ≢ Waiting
-no_waiter f t other takes e = false≢true (sym other ∙ sym (ap (λ g. takes_up g t) e) ∙ takes)
-
 module _ (w : World) (x : ℕ) (f : IsFit w) (some : 1 ≤ x) (lt : x < size w) where
-  task_told : (t : Client) (r : Reason) → is_asked_multicast t ≡ true → takes_up (member_at w x).phase t ≡ true → doing_refusal w (event_of t) x ≡ Some r → is_passing r ≡ false
-  task_told (client.Cast by body) r cast takes e = up_told (member_at w x).phase None r (no_waiter (member_at w x).phase (client.Cast by body) refl takes) (λ h. cc) e
-  task_told (client.Stop by) r cast takes e = running_told (member_at w x).phase r e
-  task_told (client.Admit by newcomer) r cast takes e = up_told (member_at w x).phase (admit_refusal w newcomer) r (no_waiter (member_at w x).phase (client.Admit by newcomer) refl takes) (admit_told (is_taken (view_in w (newest w)).entries newcomer) _ r) e
-  task_told t r cast takes e = absurd (false≢true cast)
-
   -- what is told is told with its number
   told_as : (r : Reason) → is_passing r ≡ false → refuse_if (not (is_told (code_of r) (Some r))) reason.NotRefused ≡ None
   told_as r h = ap (λ b. refuse_if (not (b && not (is_passing r))) reason.NotRefused) (nat_eq-same (code_of r)) ∙ ap (λ b. refuse_if (not (not b)) reason.NotRefused) h
@@ -150,17 +129,13 @@ module _ (w : World) (x : ℕ) (f : IsFit w) (some : 1 ≤ x) (lt : x < size w) 
   found_by : (t : Client) → asked_of t ≡ (member_at w x).name → id_of w (asked_of t) ≡ Some x
   found_by t asks = ap (id_of w) asks ∙ f.named x some lt
 
-  -- so it may answer each task that it takes up
-  pub answer_may : (t : Client) → IsAskedOf (member_at w x).name t → takes_up (member_at w x).phase t ≡ true → refusal w (answer_to w t) ≡ None
-  answer_may t asks takes = by_refusal (refusal w (event_of t)) refl
-    where
-      by_refusal : (o : Option Reason) → refusal w (event_of t) ≡ o → refusal w (answer_by t o) ≡ None
-      by_refusal None e = e
-      by_refusal (Some r) e =
-          let doing : doing_refusal w (event_of t) x ≡ Some r = sym (asked_refusal t ∙ ap (λ o. of_member o (doing_refusal w (event_of t))) (found_by t asks.0)) ∙ e in
-          ap (λ o. of_member o (λ k. refuse_if (not (is_told (code_of r) (doing_refusal w (event_of t) k))) reason.NotRefused)) (found_by t asks.0)
-          ∙ ap (λ o. refuse_if (not (is_told (code_of r) o)) reason.NotRefused) doing
-          ∙ told_as r (task_told t r asks.1 takes doing)
+  -- so it may refuse each task that the ring refuses, where that doesn't pass
+  pub answer_may : (t : Client) (r : Reason) → asked_of t ≡ (member_at w x).name → is_passing r ≡ false → refusal w (event_of t) ≡ Some r → refusal w (answer_by t (Some r)) ≡ None
+  answer_may t r asks told e =
+      let doing : doing_refusal w (event_of t) x ≡ Some r = sym (asked_refusal t ∙ ap (λ o. of_member o (doing_refusal w (event_of t))) (found_by t asks)) ∙ e in
+      ap (λ o. of_member o (λ k. refuse_if (not (is_told (code_of r) (doing_refusal w (event_of t) k))) reason.NotRefused)) (found_by t asks)
+      ∙ ap (λ o. refuse_if (not (is_told (code_of r) o)) reason.NotRefused) doing
+      ∙ told_as r told
 
   -- ---- what one that is up does by itself
 
@@ -247,13 +222,26 @@ event_begun c d e none credit names events i lt differs =
 
 -- ---- who answers a task of an agenda
 
-pub answer_enabled : (c : Seen) (i : ℕ) (t : Client) → IsGoing c → IsMemberAt c i (asked_of t) → is_asked_multicast t ≡ true → takes_up (member_at (state_of c) (i + 1)).phase t ≡ true → refusal (state_of c) (answer_to (state_of c) t) ≡ None
-answer_enabled c i t g m cast takes = answer_may (state_of c) (i + 1) (going_fit c g) (omega arith) m.0 t (sym m.1, cast) takes
+-- it may refuse it for the ring's reason, where that doesn't pass
+pub refused_enabled : (c : Seen) (i : ℕ) (t : Client) (r : Reason) → IsGoing c → IsMemberAt c i (asked_of t) → is_passing r ≡ false → refusal (state_of c) (event_of t) ≡ Some r → refusal (state_of c) (answer_by t (Some r)) ≡ None
+refused_enabled c i t r g m told e = answer_may (state_of c) (i + 1) (going_fit c g) (omega arith) m.0 t r (sym m.1) told e
 
--- so it may refuse it for the ring's reason
-pub refused_enabled : (c : Seen) (i : ℕ) (t : Client) (r : Reason) (e : Event) → IsGoing c → IsMemberAt c i (asked_of t) → is_asked_multicast t ≡ true → takes_up (member_at (state_of c) (i + 1)).phase t ≡ true → refusal (state_of c) (event_of t) ≡ Some r → e ≡ answer_by t (Some r) → refusal (state_of c) e ≡ None
-refused_enabled c i t r e g m cast takes told is =
-    subst (λ x. refusal (state_of c) x ≡ None) (sym is) (subst (λ o. refusal (state_of c) (answer_by t o) ≡ None) told (answer_enabled c i t g m cast takes))
+-- what comes of that: it leaves the task, or refuses it
+pub answered : (c : Seen) (i : ℕ) (t : Client) (r : Reason) → IsGoing c → IsMemberAt c i (asked_of t) → refusal (state_of c) (event_of t) ≡ Some r
+    → (o : Option Event) → MatchOption o (is_passing r ≡ true) (λ e. (e ≡ answer_by t (Some r)) × (is_passing r ≡ false))
+    → MatchOption o (passes (refusal (state_of c) (event_of t)) ≡ true) (λ e. (e ≡ answer_to (state_of c) t) × (refusal (state_of c) e ≡ None))
+answered c i t r g m refused None h = ap passes refused ∙ h
+answered c i t r g m refused (Some e) h = (h.0 ∙ ap (answer_by t) (sym refused), subst (λ x. refusal (state_of c) x ≡ None) (sym h.0) (refused_enabled c i t r g m h.1 refused))
+
+-- of the first of its tasks
+pub next_answer : (c : Seen) (name : List ℕ) (t : Client) (ts : List Client) → agenda_of c name ≡ t ∷ ts → IsAskedOf name t
+    → (o : Option Event) → MatchOption o (passes (refusal (state_of c) (event_of t)) ≡ true) (λ e. (e ≡ answer_to (state_of c) t) × (refusal (state_of c) e ≡ None))
+    → MatchOption o (LeavesAgenda c name) (λ e. (u : Client) × (us : List Client) × (agenda_of c name ≡ u ∷ us) × IsAskedOf name u × (e ≡ answer_to (state_of c) u) × (refusal (state_of c) e ≡ None))
+next_answer c name t ts a asks None h = λ u us b.
+    let both : t ∷ ts ≡ u ∷ us = sym a ∙ b in
+    let same : t ≡ u = cc in
+    (subst (IsAskedOf name) same asks, subst (λ (k : Client). passes (refusal (state_of c) (event_of k)) ≡ true) same h)
+next_answer c name t ts a asks (Some e) h = (t, ts, a, asks, h.0, h.1)
 
 -- ---- those who are no members
 

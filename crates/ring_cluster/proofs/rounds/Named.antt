@@ -7,21 +7,17 @@ use Rattle.ring_rules.specs.declared.event.Event.{Event}
 use Rattle.ring_rules.specs.declared.event.Event.TheVariants.{Stop, Mark, Erase}
 use Rattle.ring_rules.specs.declared.event.Client.{Client}
 use Rattle.ring_rules.specs.declared.event.Client.TheVariants as client
-use Rattle.ring_rules.specs.Machine.{World}
 use Rattle.ring_rules.specs.Refusal.{is_empty}
-use Rattle.ring_rules.specs.declared.kind.ViewChange.TheVariants as change
-use Rattle.ring_rules.specs.Kind.{Kind, Says, Steps, Changes, Stops, Reads, Tells, kind_of}
-use Rattle.ring_rules.specs.Event.{by_of, asked_of, event_of, is_asked, is_multicast, is_multicast_kind, is_asked_multicast}
-use Rattle.ring_parties.specs.States.{IsEventIn, is_played, is_played_kind}
+use Rattle.ring_rules.specs.Event.{by_of, asked_of, event_of, is_asked}
 use Rattle.ring_rules.specs.Work.{LeavesLess}
 use Rattle.ring_rules.specs.Settling.{is_repair}
-use Rattle.ring_rules.proofs.events.Kinds.{event_by, event_multicast}
+use Rattle.ring_rules.proofs.events.Kinds.{event_by}
 use Rattle.ring_rules.proofs.work.Fit as ring
 use Rattle.ring_rules.proofs.work.Settling.{repair_less}
 use Rattle.gm_member.proofs.Fit.{IsFit, reached_fit}
 use Rattle.ring_rules.specs.declared.kind.LinkStep.{LinkStep}
 use Rattle.ring_rules.specs.declared.kind.LinkStep.TheVariants as step
-use Rattle.ring_cluster.specs.Seen.{Seen, state_of, IsGoing, IsMulticastIn}
+use Rattle.ring_cluster.specs.Seen.{Seen, state_of, IsGoing}
 use Rattle.ring_cluster.specs.Plays.{asked_event, client_event, answer_by, is_stop}
 use Rattle.ring_rules.specs.Kind.{step_event}
 
@@ -55,29 +51,6 @@ going_ring c g = ring.reached_fit c.credit c.names c.events g.are g.run
 pub answered_by : (t : Client) (o : Option Reason) → by_of (answer_by t o) ≡ asked_of t
 answered_by t None = event_by t
 answered_by t (Some r) = refl
-
--- what is of the ring alone is answered by such an event
-pub answered_multicast : (t : Client) (o : Option Reason) → is_multicast (answer_by t o) ≡ is_asked_multicast t
-answered_multicast t None = event_multicast t
-answered_multicast t (Some r) = refl
-
--- an event of the ring alone is one of the parties
-pub played : (e : Event) → is_multicast e ≡ true → is_played e ≡ true
-played e cast = by_kind (kind_of e) cast
-  where
-    by_kind : (k : Kind) → is_multicast_kind k ≡ true → is_played_kind k ≡ true
-    by_kind (Changes change.Register) m = absurd (false≢true m)
-    by_kind (Changes (change.Mark dead)) m = refl
-    by_kind (Changes (change.Erase origin)) m = refl
-    by_kind (Changes (change.Admit name)) m = refl
-    by_kind (Says s) m = refl
-    by_kind (Steps s) m = refl
-    by_kind Stops m = refl
-    by_kind (Reads version) m = refl
-    by_kind (Tells code inner) m = refl
-
-pub played_in : (w : World) (i : ℕ) (e : Event) → IsMulticastIn w i e → IsEventIn w i e
-played_in w i e at = (at.0, at.1, played e at.2)
 
 -- what was asked and done or refused of a member is what comes of its answer
 event_asked : (name : List ℕ) (t : Client) → bytes_eq (asked_of t) name ≡ true → client_event name (event_of t) ≡ event_of t ∷ []

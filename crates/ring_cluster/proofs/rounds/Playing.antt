@@ -6,7 +6,7 @@ use Rattle.ring_script.specs.declared.command.Command.{Command}
 use Rattle.ring_script.specs.declared.command.Command.TheVariants as command
 use Rattle.ring_names.specs.declared.numbers.CreditSpec.{CreditSpec}
 use Rattle.ring_rules.specs.declared.event.Event.{Event}
-use Rattle.ring_rules.specs.Quiet.{RingRests}
+use Rattle.ring_rules.specs.Quiet.{IsQuiet}
 use Rattle.ring_rules.specs.Machine.{World}
 use Rattle.ring_rules.specs.Step.{opening}
 use Rattle.ring_rules.specs.Event.{event_of, last}
@@ -132,17 +132,17 @@ settled_later credit names events more commands h =
     record {
       count = h.count;
       within = omega (arith, length-append events more, h.within);
-      quiet = subst (λ es. RingRests (state credit names es)) (sym same) h.quiet;
+      quiet = subst (λ es. IsQuiet (state credit names es)) (sym same) h.quiet;
       served = subst (λ es. HaveServed (opening credit names) es commands) (sym same) h.served;
     }
 
-pub settled_now : (credit : CreditSpec) (names : List (List ℕ)) (events : List Event) (commands : List Command) → RingRests (state credit names events) → HaveServed (opening credit names) events commands → HasSettled credit names events commands
+pub settled_now : (credit : CreditSpec) (names : List (List ℕ)) (events : List Event) (commands : List Command) → IsQuiet (state credit names events) → HaveServed (opening credit names) events commands → HasSettled credit names events commands
 settled_now credit names events commands quiet served =
     let all : take (length events) events ≡ events = take_all (length events) events (omega arith) in
     record {
       count = length events;
       within = omega arith;
-      quiet = subst (λ es. RingRests (state credit names es)) (sym all) quiet;
+      quiet = subst (λ es. IsQuiet (state credit names es)) (sym all) quiet;
       served = subst (λ es. HaveServed (opening credit names) es commands) (sym all) served;
     }
 

@@ -51,7 +51,7 @@ not_dead_stays w y e f h lives none =
     false≢true (sym lives ∙ ap (λ (x : Entry). is_dead_mark x.mark) (sym is) ∙ erase_dead w y e.id.0 none)
 
 -- what holds of each entry's id holds of the id of any
-at_id : (P : ℕ → Type 0) (es : List Entry) (p : ℕ) → All (λ (e : Entry). P e.id.0) es → is_in p (ids_of es) ≡ true → P p
+pub at_id : (P : ℕ → Type 0) (es : List Entry) (p : ℕ) → All (λ (e : Entry). P e.id.0) es → is_in p (ids_of es) ≡ true → P p
 at_id P [] p h i = absurd (false≢true i)
 at_id P (e ∷ es) p h i = by_test (nat_eq p e.id.0) refl i (λ k. at_id P es p (λ j d l. h (suc j) d (omega arith)) k)
   where

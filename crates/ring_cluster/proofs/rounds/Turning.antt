@@ -1,30 +1,24 @@
 -- One turn after another, where members may stop.
-use Rattle.std.proofs.Common.{◌≡◌, ◌≢◌, ℕ, ◌+◌, ◌<◌, ◌≤◌, Bool, true, false, ◌||◌, List, [], ◌∷◌, length, Option, Some, None, refl, sym, ap, subst, ◌∙◌, ⊎_elim, arith}
+use Rattle.std.proofs.Common.{◌++◌, ◌≡◌, ◌≢◌, ℕ, ◌+◌, ◌<◌, ◌≤◌, Bool, true, false, ◌||◌, List, [], ◌∷◌, length, Option, Some, None, refl, sym, ap, subst, ◌∙◌, ⊎_elim, arith}
 use Rattle.std.proofs.lemmas.Bool.{cases_eq, cases_lt, false≢true}
-use Rattle.ring_names.specs.declared.reason.Reason.TheVariants as reason
+use Rattle.ring_names.specs.declared.reason.Reason.{Reason}
 use Rattle.ring_rules.specs.declared.event.Event.{Event}
+use Rattle.ring_rules.specs.declared.event.Event.TheVariants.{Start}
 use Rattle.ring_rules.specs.declared.event.Client.{Client}
-use Rattle.ring_rules.specs.declared.phase.Phase.{Phase}
-use Rattle.ring_rules.specs.declared.phase.Phase.TheVariants.{Waiting, Up, Stopped}
-use Rattle.ring_rules.specs.Idle.{NobodySteps}
-use Rattle.ring_rules.specs.Machine.{World, member_at, runs, runs_phase}
+use Rattle.ring_rules.specs.Machine.{World, member_at}
 use Rattle.ring_rules.specs.Step.{size}
-use Rattle.ring_rules.specs.Event.{is_asked, is_stopped, of_member, on_link, running_refusal, take_refusal, refusal}
+use Rattle.ring_rules.specs.Event.{asked_of, event_of, id_of, is_asked, refusal}
 use Rattle.ring_rules.specs.Work.{total}
-use Rattle.ring_rules.proofs.events.Refusals.{none_of}
-use Rattle.ring_rules.proofs.walks.Ended.{runs_lt}
-use Rattle.ring_rules.proofs.work.Settling.{someone}
-use Rattle.gm_member.proofs.Fit.{IsFit}
 use Rattle.ring_cluster.specs.Seen.{Seen, state_of, IsGoing, SameButOwed, with_event}
 use Rattle.ring_cluster.specs.Backlog.{backlog_of}
-use Rattle.ring_cluster.specs.Plays.{client_events, agenda_of, answer_to, takes_up, is_due, IsDue, SameGiven, HasBegun, AgendasAreEmpty}
-use Rattle.ring_cluster.specs.Turns.{Works, TakesRound, IsMemberAt, MembersStay, RestsAt, NothingIsDue, DoesAtMost}
+use Rattle.ring_cluster.specs.Plays.{agenda_of, answer_to, takes_up, is_due, IsDue, passes, LeavesAgenda, begun_by, SameGiven, HasBegun}
+use Rattle.ring_cluster.specs.Turns.{Works, TakesRound, IsMemberAt, MembersStay, RestsAt, StartsFirst, DoesAtMost}
 use Rattle.ring_cluster.proofs.deposits.Owed.{but_refl, but_trans}
 use Rattle.ring_cluster.proofs.rounds.Playing.{HasGoneOn-refl, HasGoneOn-collecting, HasGoneOn-trans}
-use Rattle.ring_cluster.proofs.rounds.Members.{event_stay, event_begun, waiting_takes_in}
-use Rattle.ring_cluster.proofs.rounds.Named.{going_fit, going_ring}
+use Rattle.ring_cluster.proofs.rounds.Members.{found_in, event_stay, event_begun}
+use Rattle.ring_cluster.proofs.rounds.Passing.{passing_starts}
 use Rattle.ring_cluster.proofs.rounds.Counting.{did_task, did_none, did_fewer, did_later, did_more, few_none, few_more, few_each}
-use Rattle.ring_cluster.proofs.rounds.Doing.{Performs, own_falls, own_goes, own_left, performed_goes, performed_more, performed_less, asked_more, due_still}
+use Rattle.ring_cluster.proofs.rounds.Doing.{Performs, own_falls, own_goes, own_left, performed_goes, performed_more, performed_less, asked_begun, begun_more_by, started_more, due_still}
 
 pub given_refl : (c : Seen) → SameGiven c c
 given_refl c = (refl, refl)
@@ -92,26 +86,50 @@ performed_round i by c d g at p =
 pub performed_begun : (i : ℕ) (by : List ℕ) (c d : Seen) → Performs i by c d → HasBegun i by c d
 performed_begun i by c d p due = performed_more i by c d p
 
--- who has nothing to do at once
-pub idle_begun : (i : ℕ) (name : List ℕ) (c d : Seen) → (IsDue c i name → ⊥) → HasBegun i name c d
-idle_begun i name c d none due = absurd (none due)
+-- one that leaves its agenda starts as a master, where it would begin with its head
+pub left_begun : (i : ℕ) (name : List ℕ) (c d e : Seen) → IsGoing c → IsMemberAt c i name → SameButOwed c d × LeavesAgenda c name → StartsFirst (i + 1) d e → HasBegun i name c e
+left_begun i name c d e g at left starts due = by_tasks (agenda_of c name) refl
+  where
+    w : World
+    w = state_of c
+
+    x : ℕ
+    x = i + 1
+
+    by_reason : (t : Client) (ts : List Client) (o : Option Reason) → agenda_of c name ≡ t ∷ ts → asked_of t ≡ name → refusal w (event_of t) ≡ o → passes o ≡ true → length (begun_by name c.events) < length (begun_by name e.events)
+    by_reason t ts None a asks refused pass = absurd (false≢true pass)
+    by_reason t ts (Some r) a asks refused pass =
+        let named = found_in c i g at.0 in
+        let takes : takes_up (member_at w x).phase t ≡ true = sym (ap (is_due (member_at w x).phase) a) ∙ due in
+        let may = passing_starts w x t r (ap (id_of w) (asks ∙ sym at.1) ∙ named) named takes pass refused in
+        let same : state_of d ≡ w = ap state_of left.0.1 in
+        let events : d.events ≡ c.events = ap (λ s. s.events) left.0.1 in
+        let done : SameButOwed (with_event d (Start (member_at (state_of d) x).name)) e =
+        starts (ap (λ u. (member_at u x).phase) same ∙ may.0) (ap (λ u. refusal u (Start (member_at u x).name)) same ∙ may.1) in
+        let by : (member_at (state_of d) x).name ≡ name = ap (λ u. (member_at u x).name) same ∙ at.1 in
+        let now : e.events ≡ c.events ++ Start name ∷ [] = ap (λ s. s.events) done.1 ∙ ap (λ n. d.events ++ Start n ∷ []) by ∙ ap (λ es. es ++ Start name ∷ []) events in
+        omega (arith, started_more name c.events, ap (λ es. length (begun_by name es)) now)
+
+    by_tasks : (ts : List Client) → agenda_of c name ≡ ts → length (begun_by name c.events) < length (begun_by name e.events)
+    by_tasks [] a = absurd (false≢true (sym (ap (is_due (member_at w x).phase) a) ∙ due))
+    by_tasks (t ∷ ts) a = let l = left.1 t ts a in by_reason t ts (refusal w (event_of t)) a l.0 refl l.1
 
 pub empty_begun : (i : ℕ) (name : List ℕ) (c d : Seen) → agenda_of c name ≡ [] → HasBegun i name c d
 empty_begun i name c d e due = absurd (false≢true (sym (ap (is_due (member_at (state_of c) (i + 1)).phase) e) ∙ due))
 
 -- where there are turns after it, or were before
 pub begun_still : (i : ℕ) (name : List ℕ) (c d e : Seen) → HasBegun i name c d → TakesRound d e → HasBegun i name c e
-begun_still i name c d e h t due = omega (arith, h due, asked_more d e name t.goes.0 t.goes.1.events)
+begun_still i name c d e h t due = omega (arith, h due, begun_more_by d e name t.goes.0 t.goes.1.events)
 
 pub begun_later : (i : ℕ) (name : List ℕ) (c d e : Seen) → IsMemberAt c i name → TakesRound c d → HasBegun i name d e → TakesRound d e → HasBegun i name c e
 begun_later i name c d e at before h after due =
-    let many = asked_more c d name before.goes.0 before.goes.1.events in
+    let many = begun_more_by c d name before.goes.0 before.goes.1.events in
     ⊎_elim
-    (λ (some : 0 < length (client_events name before.goes.0)). begun_still i name c d e (λ _. omega (arith, some, many)) after due)
-    (λ (none : length (client_events name before.goes.0) ≤ 0).
-    let still : IsDue d i name = due_still c d i name before.goes.0 before.goes.1 (before.begun i at.0) (omega (arith, none)) due in
+    (λ (some : 0 < length (begun_by name before.goes.0)). begun_still i name c d e (λ _. omega (arith, some, many)) after due)
+    (λ (none : length (begun_by name before.goes.0) ≤ 0).
+    let still : IsDue d i name = due_still c d i name before.goes.0 before.goes.1 (before.begun i at.0) (omega (arith, none, asked_begun name before.goes.0)) due in
     omega (arith, h still, many))
-    (cases_lt 0 (length (client_events name before.goes.0)))
+    (cases_lt 0 (length (begun_by name before.goes.0)))
 
 -- ---- who takes turns
 
@@ -190,7 +208,7 @@ passed_more = moved_more Works (λ c. total (state_of c)) (λ c i. RestsAt (stat
 
 -- of what clients asked
 abbrev pub RestsFrom : Seen → ℕ → Type 0
-RestsFrom c i = (name : List ℕ) → IsMemberAt c i name → IsDue c i name → ⊥
+RestsFrom c i = (name : List ℕ) → IsMemberAt c i name → LeavesAgenda c name
 
 abbrev pub FinishedBelow : Seen → Seen → Bool → ℕ → Type 0
 FinishedBelow = MovedBelow TakesRound backlog_of RestsFrom
@@ -204,54 +222,16 @@ finished_more = moved_more TakesRound backlog_of RestsFrom
     round_trans
 
 -- of one of them
-pub performed_or : (i : ℕ) (by : List ℕ) (c d : Seen) (did : Bool) → IsGoing c → IsMemberAt c i by → (did ≡ true → Performs i by c d) → (did ≡ false → SameButOwed c d × (IsDue c i by → ⊥)) → TakesRound c d
+pub performed_or : (i : ℕ) (by : List ℕ) (c d : Seen) (did : Bool) → IsGoing c → IsMemberAt c i by → (did ≡ true → Performs i by c d) → (did ≡ false → SameButOwed c d × LeavesAgenda c by) → TakesRound c d
 performed_or i by c d true g at does rests = performed_round i by c d g at (does refl)
 performed_or i by c d false g at does rests = works_round c d (works_same c d (rests refl).0)
 
-pub performed_once : (i : ℕ) (by : List ℕ) (c d : Seen) (did : Bool) → (did ≡ true → Performs i by c d) → (did ≡ false → SameButOwed c d × (IsDue c i by → ⊥)) → DoesAtMost 1 by c d
-performed_once i by c d true does rests = let p = does refl in did_task by c d p.0 p.1 p.3.0 p.5
+pub performed_once : (i : ℕ) (by : List ℕ) (c d : Seen) (did : Bool) → (did ≡ true → Performs i by c d) → (did ≡ false → SameButOwed c d × LeavesAgenda c by) → DoesAtMost 1 by c d
+performed_once i by c d true does rests = let p = does refl in did_task by c d p.0 p.1 p.3 p.5
 performed_once i by c d false does rests = did_none 1 by c d (rests refl).0
 
-pub rests_named : (i : ℕ) (by : List ℕ) (c d : Seen) → IsMemberAt c i by → SameButOwed c d × (IsDue c i by → ⊥) → SameButOwed c d × RestsFrom c i
-rests_named i by c d at h = (h.0, λ name m due. h.1 (subst (IsDue c i) (sym m.1 ∙ at.1) due))
-
--- ---- a drain
-
--- a waiting member could take its first packet, so nobody waits where nobody has a step to do
-pub nobody_waits : (c : Seen) → IsGoing c → NobodySteps (state_of c) → (y : ℕ) → (member_at (state_of c) y).phase ≢ Waiting
-nobody_waits c g h y waits = by_current (member_at w y).current refl
-    (none_of (is_stopped (member_at w y).phase) reason.Stopped (on_link (member_at w y).current reason.NoCurrentLink (take_refusal w y))
-    (sym (ap (λ o. of_member o (λ k. running_refusal w k (on_link (member_at w k).current reason.NoCurrentLink (take_refusal w k)))) (fit.named y some (runs_lt w y run))) ∙ waiting_takes_in c y g waits)).1
-  where
-    w : World
-    w = state_of c
-
-    fit : IsFit w
-    fit = going_fit c g
-
-    run : runs w y ≡ true
-    run = ap runs_phase waits
-
-    some : 1 ≤ y
-    some = someone w (going_ring c g) y run
-
-    by_current : (o : Option ℕ) → (member_at w y).current ≡ o → on_link o reason.NoCurrentLink (take_refusal w y) ≡ None → ⊥
-    by_current None e k = cc
-    by_current (Some s) e k = (h y run).take s e k
-
--- so where nothing is due every agenda is empty
-pub all_empty : (c : Seen) → IsGoing c → NobodySteps (state_of c) → NothingIsDue c → AgendasAreEmpty c
-all_empty c g h none i name at = by_tasks (agenda_of c name) refl (member_at (state_of c) (i + 1)).phase refl
-  where
-    by_tasks : (ts : List Client) → agenda_of c name ≡ ts → (f : Phase) → (member_at (state_of c) (i + 1)).phase ≡ f → agenda_of c name ≡ []
-    by_tasks [] e f p = e
-    by_tasks (t ∷ ts) e Waiting p = absurd (nobody_waits c g h (i + 1) p)
-    by_tasks (t ∷ ts) e Up p = absurd (none i name at (ap (is_due (member_at (state_of c) (i + 1)).phase) e ∙ ap (λ f. takes_up f t) p))
-    by_tasks (t ∷ ts) e Stopped p = absurd (none i name at (ap (is_due (member_at (state_of c) (i + 1)).phase) e ∙ ap (λ f. takes_up f t) p))
-
--- the same, where only what is owed has changed since
-pub drained_empty : (c d : Seen) → IsGoing c → NobodySteps (state_of c) → SameButOwed c d × NothingIsDue c → AgendasAreEmpty d
-drained_empty c d g h k = subst AgendasAreEmpty (sym k.0.1) (all_empty c g h k.1)
+pub rests_named : (i : ℕ) (by : List ℕ) (c d : Seen) → IsMemberAt c i by → SameButOwed c d × LeavesAgenda c by → SameButOwed c d × RestsFrom c i
+rests_named i by c d at h = (h.0, λ name m. subst (LeavesAgenda c) (sym at.1 ∙ m.1) h.1)
 
 -- ---- by what the driver does
 
@@ -259,7 +239,7 @@ drained_empty c d g h k = subst AgendasAreEmpty (sym k.0.1) (all_empty c g h k.1
 pub ruleset own_step = (own_falls, own_works, works_same)
 
 -- what a turn does
-pub ruleset one_turn = (performed_round, performed_begun, works_round, idle_begun, works_same, did_none, did_later)
+pub ruleset one_turn = (performed_round, performed_begun, works_round, left_begun, works_same, did_none, did_later)
 
 -- what turns one after another do
 pub ruleset more_turns = (round_trans, round_refl, begun_still, did_none, did_fewer, did_more)

@@ -1,21 +1,19 @@
--- What the events of a journal publish of each name, and that this tells what the logs are.
+-- What the events of a journal publish of each name.
 use Rattle.std.proofs.Common.{◌≡◌, if◌then◌else◌, ◌≢◌, ℕ, zero, suc, ◌<◌, Bool, true, false, List, [], ◌∷◌, ◌++◌, length, map, set, get_or, bytes_eq, Option, Some, None, refl, sym, ap, ◌∙◌, IsSome, subst, arith, Bor}
 use Rattle.std.specs.List.{position}
-use Rattle.std.specs.declared.vec.Vec.{Vec}
-use Rattle.std.specs.declared.alloc.Global.{Global}
+use Rattle.std.specs.Prelude.{MatchOption}
 use Rattle.std.proofs.lemmas.Bool.{false≢true}
 use Rattle.std.proofs.lemmas.List.{append-nil, flat_map_more}
 use Rattle.std.proofs.lemmas.List.Quantifiers.{position-Some}
-use Rattle.queue_core.specs.declared.message.Message.{Message}
-use Rattle.queue_core.specs.declared.message.Message.TheVariants as message
 use Rattle.group_view.specs.Change.{AreDifferent}
 use Rattle.ring_rules.specs.declared.event.Event.{Event}
-use Rattle.ring_rules.specs.Kind.{Own, Says, kind_of}
+use Rattle.ring_rules.specs.declared.kind.Kind.TheVariants as shown
+use Rattle.ring_rules.specs.Kind.{Saying, Own, OfQueue, Kind, Says, kind_of, own_body_of, shown_kind}
 use Rattle.ring_rules.specs.Event.{by_of}
-use Rattle.ring_rules.specs.Published.{told_of, published_as, published_by, published_in}
+use Rattle.ring_rules.specs.Published.{told_of_saying, published_as, published_by, published_in}
 use Rattle.ring_rules.proofs.events.Names.{same_bytes, own_bytes}
 use Rattle.ring_parties.proofs.lists.Places.{position_there}
-use Rattle.ring_cluster.specs.Published.{casts_with, logs_in, told_with, told_in}
+use Rattle.ring_cluster.specs.Published.{told_by}
 
 -- ---- lists alone
 
@@ -52,10 +50,20 @@ module _ (names : List (List ℕ)) (before : List Event) (e : Event) where
   stays : (name : List ℕ) → published_by name e ≡ [] → then_published name ≡ published_in name before
   stays name is = grows name [] is ∙ append-nil (published_in name before)
 
--- it says a message of its member's own
-module _ (e : Event) (body : List ℕ) (says : kind_of e ≡ Says (Own body)) where
-  by_test : (name : List ℕ) (b : Bool) → bytes_eq (by_of e) name ≡ b → published_by name e ≡ (if b then Some body ∷ [] else [])
-  by_test name b h = ap (published_as name (by_of e)) says ∙ ap (λ t. if t then Some body ∷ [] else []) h
+-- it says nothing
+silent : (name by : List ℕ) (k : Kind) → (shown_kind k ≡ shown.Says → ⊥) → published_as name by k ≡ []
+silent name by (Says s) none = absurd (none refl)
+silent name by k none = refl
+
+pub saying_nothing : (names : List (List ℕ)) (before : List Event) (e : Event) → (shown_kind (kind_of e) ≡ shown.Says → ⊥) → map (λ name. published_in name before) names ≡ map (λ name. published_in name (before ++ e ∷ [])) names
+saying_nothing names before e none =
+    same_each (λ name. published_in name before) (λ name. published_in name (before ++ e ∷ [])) names []
+    (λ j l. stays names before e (get_or names j []) (silent (get_or names j []) (by_of e) (kind_of e) none))
+
+-- it says something
+module _ (e : Event) (s : Saying) (says : kind_of e ≡ Says s) where
+  by_test : (name : List ℕ) (b : Bool) → bytes_eq (by_of e) name ≡ b → published_by name e ≡ (if b then told_of_saying s ∷ [] else [])
+  by_test name b h = ap (published_as name (by_of e)) says ∙ ap (λ t. if t then told_of_saying s ∷ [] else []) h
 
   of_other : (name : List ℕ) (b : Bool) → bytes_eq (by_of e) name ≡ b → (by_of e ≡ name → ⊥) → published_by name e ≡ []
   of_other name true h differ = absurd (differ (same_bytes (by_of e) name h))
@@ -71,37 +79,21 @@ module _ (e : Event) (body : List ℕ) (says : kind_of e ≡ Says (Own body)) wh
 
   -- it is one of them
   pub saying_of_one : (names : List (List ℕ)) (before : List Event) (i : ℕ) → AreDifferent names → position (λ n. bytes_eq n (by_of e)) names ≡ Some i
-      → set (map (λ name. published_in name before) names) i (get_or (map (λ name. published_in name before) names) i [] ++ Some body ∷ [])
+      → set (map (λ name. published_in name before) names) i (get_or (map (λ name. published_in name before) names) i [] ++ told_of_saying s ∷ [])
       ≡ map (λ name. published_in name (before ++ e ∷ [])) names
   saying_of_one names before i differ found =
       let there = position-Some (λ n. bytes_eq n (by_of e)) names i [] found in
       let is : get_or names i [] ≡ by_of e = same_bytes (get_or names i []) (by_of e) there.1 in
-      more_at (λ name. published_in name before) (λ name. published_in name (before ++ e ∷ [])) (Some body ∷ []) names i [] there.0
-      (grows names before e (get_or names i []) (Some body ∷ []) (by_test (get_or names i []) true (ap (bytes_eq (by_of e)) is ∙ own_bytes (by_of e))))
+      more_at (λ name. published_in name before) (λ name. published_in name (before ++ e ∷ [])) (told_of_saying s ∷ []) names i [] there.0
+      (grows names before e (get_or names i []) (told_of_saying s ∷ []) (by_test (get_or names i []) true (ap (bytes_eq (by_of e)) is ∙ own_bytes (by_of e))))
       (λ j l ne. stays names before e (get_or names j [])
       (of_other (get_or names j []) _ refl (λ same. ne (differ j i l there.0 (sym same ∙ sym is)))))
 
--- ---- the logs, by what is told of them
+-- ---- what is told of it
 
-cast_is : (body : List ℕ) (m : Message) → Some body ≡ told_of m → message.Cast body ≡ m
-cast_is body (message.Cast other) e = let same : body ≡ other = cc in ap message.Cast same
-cast_is body (message.Queue o) e = cc
-
-casts_are : (bodies : List (Bor (List ℕ))) (ms : List Message) → told_with bodies ≡ map told_of ms → casts_with bodies ≡ ms
-casts_are [] [] e = refl
-casts_are [] (m ∷ ms) e = cc
-casts_are (b ∷ bodies) [] e = cc
-casts_are (b ∷ bodies) (m ∷ ms) e =
-    let here : Some b.now ≡ told_of m = cc in
-    let rest : told_with bodies ≡ map told_of ms = cc in
-    ap (λ k. k ∷ casts_with bodies) (cast_is b.now m here) ∙ ap (λ ks. m ∷ ks) (casts_are bodies ms rest)
-
--- where bodies alone are told of them, they are the casts of these
-pub logs_are : (all : List (Vec (Bor (List ℕ)) Global)) (log : ℕ → List Message) (ids : List ℕ) → told_in all ≡ map (λ x. map told_of (log x)) ids → logs_in all ≡ map log ids
-logs_are [] log [] e = refl
-logs_are [] log (x ∷ ids) e = cc
-logs_are (v ∷ all) log [] e = cc
-logs_are (v ∷ all) log (x ∷ ids) e =
-    let here : told_with v.items ≡ map told_of (log x) = cc in
-    let rest : told_in all ≡ map (λ y. map told_of (log y)) ids = cc in
-    ap (λ ms. ms ∷ logs_in all) (casts_are v.items (log x) here) ∙ ap (λ ls. log x ∷ ls) (logs_are all log ids rest)
+-- the body of a message of one's own, and nothing of an operation of the queue
+pub own_told : (s : Saying) (o : Option (Bor (List ℕ))) → MatchOption o (own_body_of (Says s) ≡ None) (λ b. own_body_of (Says s) ≡ Some b.now) → told_by o ≡ told_of_saying s
+own_told (Own body) None h = cc
+own_told (Own body) (Some b) h = sym h
+own_told (OfQueue q) None h = refl
+own_told (OfQueue q) (Some b) h = cc

@@ -16,7 +16,7 @@ use Rattle.ring_parties.specs.declared.party.Party.{Party}
 use Rattle.ring_parties.specs.Parties.{ANode, Shown, Keeps, PartiesSeen, parties, shown_of, shown_in, keeps_in, node_at}
 use Rattle.ring_parties.specs.Keeps.{keeps_at}
 use Rattle.ring_parties.specs.Standing.{StandSomewhere}
-use Rattle.ring_parties.specs.Acting.{IsReady, stop_refused}
+use Rattle.ring_parties.specs.Acting.{IsReady, IsBooked, stop_refused}
 use Rattle.ring_parties.specs.Collecting.{AreOfRing}
 use Rattle.ring_parties.specs.Refused.{office_of, admission_refused}
 use Rattle.ring_parties.specs.Looking.{ask_refused}
@@ -93,6 +93,10 @@ module _ (a : Inside) (q : PartiesSeen) (is : gathered a ≡ q) where
 
       pub is_ready : (x : Party) → x ≡ get_or a.members.items i x → IsReady (shown_in x)
       is_ready x e = subst IsReady (sym (shown_is i l x e)) (ready_after s.0 s.1 s.2 q.all i s.3 l)
+
+  -- its book has what it has published
+  pub is_booked : (i : ℕ) → i < length q.all.nodes → IsBooked (node_at q.all i) (keeps_at q.keeps i) → (x : Party) → x ≡ get_or a.members.items i x → IsBooked (shown_in x) (keeps_in x)
+  is_booked i l b x e = subst (λ m. IsBooked m (keeps_in x)) (sym (shown_is i l x e)) (subst (IsBooked (node_at q.all i)) (sym (keeps_is i l x e)) b)
 
   module _ (none : q.owes ≡ false) (s : StandSomewhere q.all) where
     stand : StandSomewhere (parties a.members.items a.registrar [])

@@ -23,7 +23,7 @@ use Rattle.ring_rules.specs.View.{ids}
 use Rattle.ring_rules.specs.Machine.{World, member_at, is_waiting, runs_phase}
 use Rattle.ring_rules.specs.Machine as machine
 use Rattle.ring_rules.specs.Step.{size, opening}
-use Rattle.ring_rules.specs.Event.{by_of, id_of, of_member, is_stopped, up_refusal, refresh_refusal, pick_refusal, refused_as, refusal, done_as, effect}
+use Rattle.ring_rules.specs.Event.{by_of, id_of, of_member, is_stopped, up_refusal, refresh_refusal, pick_refusal, refused_as, refusal, done_as}
 use Rattle.ring_rules.specs.Event as event
 use Rattle.ring_rules.proofs.runs.InOrder.{last_append, run_append}
 use Rattle.ring_rules.proofs.events.WhatRefuses.{MayLook}
@@ -42,19 +42,19 @@ use Rattle.ring_parties.specs.declared.party.Party.{Party}
 use Rattle.ring_parties.specs.Keeps.{KeepsStand, keeps_of, all_kept_after}
 use Rattle.ring_parties.proofs.keeping.Going.{keeps_go}
 use Rattle.ring_parties.specs.Parties.{Shown, Keeps, Deposit, Parties, parties, deposit_shown, node_at, with_node, shown_in, in_seen}
-use Rattle.ring_parties.specs.States.{state, IsEventIn, is_played, is_played_kind}
+use Rattle.ring_parties.specs.States.{state, IsEventIn}
 use Rattle.ring_parties.specs.Standing.{MemberStands, StandAfter, IsJournal}
 use Rattle.ring_parties.specs.Replaced.{StandBetween, BetweenAfter, moved_by}
 use Rattle.ring_parties.specs.Meeting.{MayMeet, MeetsIn}
-use Rattle.ring_parties.specs.Acting.{stop_refused, look_refused, depositing, newest_of, viewing, erasing, admitting, joining, LooksAt, Acts}
-use Rattle.ring_parties.specs.Refused.{id_named, NothingWaits, mark_refused, erase_refused, admission_refused, own_refused, act_refused, marked_in, office_of}
+use Rattle.ring_parties.specs.Acting.{stop_refused, look_refused, depositing, newest_of, viewing, erasing, registering, admitting, joining, LooksAt, Acts}
+use Rattle.ring_parties.specs.Refused.{id_named, NothingWaits, mark_refused, erase_refused, synced_refused, admission_refused, own_refused, act_refused, marked_in, office_of}
 use Rattle.ring_parties.specs.Behind.{behind}
 use Rattle.ring_parties.specs.declared.pending_deposit.PendingDeposit.{PendingDeposit}
 use Rattle.ring_parties.proofs.work.Lawful.{IsLawfulAt}
-use Rattle.ring_parties.proofs.events.After.{shown_inside, lawful_after, go_after, within_after, member_after, id_after}
+use Rattle.ring_parties.proofs.events.After.{shown_inside, lawful_after, later_fit, go_after, within_after, member_after, id_after}
 use Rattle.ring_parties.proofs.events.Found.{named_alike, found_within}
 use Rattle.ring_parties.proofs.events.Refusals.{IsOwn, own_refuses}
-use Rattle.ring_parties.proofs.events.Refusing.{look_refuses, admit_refuses, mark_asked_refuses, nobody_named, erase_refuses}
+use Rattle.ring_parties.proofs.events.Refusing.{look_refuses, admit_refuses, mark_asked_refuses, nobody_named, erase_refuses, synced_refuses}
 use Rattle.ring_parties.proofs.events.EachGoes.{MayGo, each_goes}
 use Rattle.ring_parties.proofs.events.Marking.{refresh_may}
 use Rattle.ring_parties.proofs.meetings.Receivers.{GoesIn, replaced_goes_in}
@@ -111,8 +111,8 @@ module _ (credit : CreditSpec) (names : List (List ℕ)) (events : List Event) w
   found_place q name i e = omega (arith, (found_within q name (i + 1) e).1)
 
   -- a member refuses what it does of a kind just where the ring does, for the same reason
-  kind_refused : (q : Parties) (keeps : Keeps) (k : Kind) (i : ℕ) → StandAfter credit names events q → keeps ≡ keeps_of (state credit names events) (i + 1) → i < length q.nodes → ((node_at q i).held.phase ≡ Up → NothingWaits (i + 1) q) → is_played_kind k ≡ true → act_refused k keeps i q ≡ refused_as (state credit names events) (i + 1) k
-  kind_refused q keeps k i s kept l waits cast = by_kind k cast
+  kind_refused : (q : Parties) (keeps : Keeps) (k : Kind) (i : ℕ) → StandAfter credit names events q → keeps ≡ keeps_of (state credit names events) (i + 1) → i < length q.nodes → ((node_at q i).held.phase ≡ Up → NothingWaits (i + 1) q) → act_refused k keeps i q ≡ refused_as (state credit names events) (i + 1) k
+  kind_refused q keeps k i s kept l waits = by_kind k
     where
       w : World
       w = state credit names events
@@ -147,24 +147,28 @@ module _ (credit : CreditSpec) (names : List (List ℕ)) (events : List Event) w
       by_dead dead None e = nobody dead (event.mark_refusal w (i + 1)) e
       by_dead dead (Some d) e = mark_up dead d e (node_at q i).held.phase refl
 
+      office : StandsIn w (office_of q)
+      office = record { views = s.stand.stand.views; stopped = s.stand.stand.stopped; nobody_else = s.stand.stand.nobody_else }
+
       packet_by_id : (origin : List ℕ) (o : Option ℕ) → id_of w origin ≡ o → erase_refused (office_of q) (node_at q i) o ≡ refused_as w (i + 1) (Changes (change.Erase origin))
       packet_by_id origin None e = nobody origin (event.erase_refusal w (i + 1)) e
       packet_by_id origin (Some p) e = subst (λ j. erase_refused (office_of q) (node_at q j) (Some p) ≡ refused_as w (i + 1) (Changes (change.Erase origin))) (place i)
-          (erase_refuses credit w (office_of q) q (i + 1) p origin (lawful_after credit names events s.journal) (record { views = s.stand.stand.views; stopped = s.stand.stand.stopped; nobody_else = s.stand.stand.nobody_else }) s.stand (omega arith) lt e)
+          (erase_refuses credit w (office_of q) q (i + 1) p origin (lawful_after credit names events s.journal) office s.stand (omega arith) lt e)
 
-      by_kind : (k : Kind) → is_played_kind k ≡ true → act_refused k keeps i q ≡ refused_as w (i + 1) k
-      by_kind (Changes (change.Mark dead)) m = ap (mark_refused (office_of q) (node_at q i)) (found q dead s) ∙ by_dead dead (id_of w dead) refl
-      by_kind (Changes (change.Erase origin)) m = ap (erase_refused (office_of q) (node_at q i)) (found q origin s) ∙ packet_by_id origin (id_of w origin) refl
-      by_kind (Changes (change.Admit name)) m = subst (λ j. up_refused (node_at q j).held (admission_refused (newest_of q) name) ≡ refused_as w (i + 1) (Changes (change.Admit name))) (place i) (admit_refuses credit w q (i + 1) name (omega arith) lt s.stand)
-      by_kind (Changes change.Register) m = absurd (false≢true m)
-      by_kind (Steps step.Pick) m = pick_up (node_at q i).held.phase refl
-      by_kind k m = own k m
+      by_kind : (k : Kind) → act_refused k keeps i q ≡ refused_as w (i + 1) k
+      by_kind (Changes (change.Mark dead)) = ap (mark_refused (office_of q) (node_at q i)) (found q dead s) ∙ by_dead dead (id_of w dead) refl
+      by_kind (Changes (change.Erase origin)) = ap (erase_refused (office_of q) (node_at q i)) (found q origin s) ∙ packet_by_id origin (id_of w origin) refl
+      by_kind (Changes (change.Admit name)) = subst (λ j. up_refused (node_at q j).held (admission_refused (newest_of q) name) ≡ refused_as w (i + 1) (Changes (change.Admit name))) (place i) (admit_refuses credit w q (i + 1) name (omega arith) lt s.stand)
+      by_kind (Changes change.Register) = subst (λ j. synced_refused (office_of q) keeps (node_at q j) ≡ refused_as w (i + 1) (Changes change.Register)) (place i)
+          (synced_refuses credit w (office_of q) q keeps (i + 1) (lawful_after credit names events s.journal) office s.stand kept (omega arith) lt)
+      by_kind (Steps step.Pick) = pick_up (node_at q i).held.phase refl
+      by_kind k = own k tt
 
   -- and so an event
   pub refused_is : (q : Parties) (keeps : Keeps) (e : Event) (i : ℕ) → StandAfter credit names events q → keeps ≡ keeps_of (state credit names events) (i + 1) → id_named q (by_of e) ≡ Some (i + 1) → ((node_at q i).held.phase ≡ Up → NothingWaits (i + 1) q)
-      → is_played e ≡ true → act_refused (kind_of e) keeps i q ≡ refusal (state credit names events) e
-  refused_is q keeps e i s kept named waits cast =
-      kind_refused q keeps (kind_of e) i s kept (found_place q (by_of e) i named) waits cast ∙ sym (refused_there (state credit names events) (i + 1) e (sym (found q (by_of e) s) ∙ named))
+      → act_refused (kind_of e) keeps i q ≡ refusal (state credit names events) e
+  refused_is q keeps e i s kept named waits =
+      kind_refused q keeps (kind_of e) i s kept (found_place q (by_of e) i named) waits ∙ sym (refused_there (state credit names events) (i + 1) e (sym (found q (by_of e) s) ∙ named))
 
   -- ---- the event happens
 
@@ -191,6 +195,7 @@ module _ (credit : CreditSpec) (names : List (List ℕ)) (events : List Event) w
       by_kind Stops (b, _, is, _) = as_many (ap (λ (p : Parties). length p.nodes) is ∙ length-set q.nodes i b)
       by_kind (Changes (change.Mark dead)) a = looks (marked (newest_of q) d) (viewing (marked (newest_of q) d) q) refl a
       by_kind (Changes (change.Erase origin)) a = looks (erasing q d) (viewing (erasing q d) q) refl a
+      by_kind (Changes change.Register) a = looks (registering q (i + 1)) (viewing (registering q (i + 1)) q) refl a
       by_kind (Changes (change.Admit name)) a = one_more a.2.0 _ (admitting q i name) a.2.3
       by_kind (Reads version) a = looks (view_at q.views version) q refl a
       by_kind (Tells code inner) a = as_many (ap (λ (p : Parties). length p.nodes) a.0)
@@ -215,6 +220,7 @@ module _ (credit : CreditSpec) (names : List (List ℕ)) (events : List Event) w
       by_kind : (k : Kind) → Acts k keeps i d q q' (Some (name, o)) → GoesIn w name
       by_kind (Changes (change.Mark dead)) (b, new, how, _) = looks_at (marked (newest_of q) d) (depositing new (with_node q i b)) (b, new, how, refl)
       by_kind (Changes (change.Erase origin)) (b, new, how, _) = looks_at (erasing q d) (depositing new (with_node q i b)) (b, new, how, refl)
+      by_kind (Changes change.Register) (b, new, how, _) = looks_at (registering q (i + 1)) (depositing new (with_node q i b)) (b, new, how, refl)
       by_kind (Changes (change.Admit name)) a = looks_at (admitting q i name) (depositing a.2.1 (with_node q i a.2.0)) (a.2.0, a.2.1, a.2.2, refl)
       by_kind (Reads version) a = looks_at (view_at q.views version) q' a
       by_kind (Tells code inner) a = never a.1
@@ -222,8 +228,8 @@ module _ (credit : CreditSpec) (names : List (List ℕ)) (events : List Event) w
 
   -- what it needs besides
   may_go : (q : Parties) (k : Kind) (i : ℕ) → StandAfter credit names events q → i < length q.nodes → refused_as (state credit names events) (i + 1) k ≡ None
-      → ((node_at q i).held.phase ≡ Up → NothingWaits (i + 1) q) → is_played_kind k ≡ true → MayGo (state credit names events) k (i + 1) (marked_in k q) q
-  may_go q k i s l r waits cast = by_kind k cast r
+      → ((node_at q i).held.phase ≡ Up → NothingWaits (i + 1) q) → MayGo (state credit names events) k (i + 1) (marked_in k q) q
+  may_go q k i s l r waits = by_kind k r
     where
       w : World
       w = state credit names events
@@ -239,18 +245,19 @@ module _ (credit : CreditSpec) (names : List (List ℕ)) (events : List Event) w
           let unknown : Some reason.UnknownMember ≡ None = sym (ap (λ o. of_member o later) (sym (found q other s) ∙ k)) ∙ none in
           cc
 
-      by_kind : (k : Kind) → is_played_kind k ≡ true → refused_as w (i + 1) k ≡ None → MayGo w k (i + 1) (marked_in k q) q
-      by_kind (Changes (change.Mark dead)) m e = (other_is dead (event.mark_refusal w (i + 1)) (id_named q dead) refl e, up (of_member (id_of w dead) (event.mark_refusal w (i + 1))) e)
-      by_kind (Changes (change.Erase origin)) m e = (other_is origin (event.erase_refusal w (i + 1)) (id_named q origin) refl e, up (of_member (id_of w origin) (event.erase_refusal w (i + 1))) e)
-      by_kind (Changes (change.Admit name)) m e = up (event.admit_refusal w name) e
-      by_kind (Reads version) m e = up (refresh_refusal w (i + 1) version) e
-      by_kind (Steps step.Pick) m e = up (or_else (refuse_if (is_some (member_at w (i + 1)).current) reason.HasCurrentLink) (pick_refusal w (i + 1))) e
-      by_kind k m e = m
+      by_kind : (k : Kind) → refused_as w (i + 1) k ≡ None → MayGo w k (i + 1) (marked_in k q) q
+      by_kind (Changes (change.Mark dead)) e = (other_is dead (event.mark_refusal w (i + 1)) (id_named q dead) refl e, up (of_member (id_of w dead) (event.mark_refusal w (i + 1))) e)
+      by_kind (Changes (change.Erase origin)) e = (other_is origin (event.erase_refusal w (i + 1)) (id_named q origin) refl e, up (of_member (id_of w origin) (event.erase_refusal w (i + 1))) e)
+      by_kind (Changes (change.Admit name)) e = up (event.admit_refusal w name) e
+      by_kind (Changes change.Register) e = up (event.synced_refusal w (i + 1)) e
+      by_kind (Reads version) e = up (refresh_refusal w (i + 1) version) e
+      by_kind (Steps step.Pick) e = up (or_else (refuse_if (is_some (member_at w (i + 1)).current) reason.HasCurrentLink) (pick_refusal w (i + 1))) e
+      by_kind k e = tt
 
   pub acted : (q q' : Parties) (keeps : Keeps) (e : Event) (i : ℕ) (replaced : Option (LinkName × OutSeen)) → StandAfter credit names events q → keeps ≡ keeps_of (state credit names events) (i + 1) → act_refused (kind_of e) keeps i q ≡ None → id_named q (by_of e) ≡ Some (i + 1)
-      → ((node_at q i).held.phase ≡ Up → NothingWaits (i + 1) q) → is_played e ≡ true → length events + 1 < 2 ^ 59 → Acts (kind_of e) keeps i (marked_in (kind_of e) q) q q' replaced
+      → ((node_at q i).held.phase ≡ Up → NothingWaits (i + 1) q) → length events + 1 < 2 ^ 59 → Acts (kind_of e) keeps i (marked_in (kind_of e) q) q q' replaced
       → BetweenAfter credit names (events ++ e ∷ []) (moved_by (i + 1) (state credit names (events ++ e ∷ []))) q' replaced
-  acted q q' keeps e i replaced s kept refused named waits cast few a = record {
+  acted q q' keeps e i replaced s kept refused named waits few a = record {
     journal = journal;
     stand = stand;
     goes = λ name o k. goes name o (subst (Acts (kind_of e) keeps i (marked_in (kind_of e) q) q q') k a);
@@ -260,7 +267,7 @@ module _ (credit : CreditSpec) (names : List (List ℕ)) (events : List Event) w
       w = state credit names events
 
       enabled : refusal w e ≡ None
-      enabled = sym (refused_is q keeps e i s kept named waits cast) ∙ refused
+      enabled = sym (refused_is q keeps e i s kept named waits) ∙ refused
 
       journal : IsJournal credit names (events ++ e ∷ [])
       journal = record {
@@ -285,7 +292,7 @@ module _ (credit : CreditSpec) (names : List (List ℕ)) (events : List Event) w
       stand = subst (λ u. StandMoved credit.initial (i + 1) u q' replaced) (sym after)
           (each_goes credit w (kind_of e) keeps i (marked_in (kind_of e) q) q q' replaced (lawful_after credit names events s.journal)
           (subst (IsLawfulAt credit) after (lawful_after credit names (events ++ e ∷ []) journal))
-          allowed (within_after credit names events q i s inside) (may_go q (kind_of e) i s inside allowed waits cast) kept s.stand a)
+          allowed (within_after credit names events q i s inside) (may_go q (kind_of e) i s inside allowed waits) kept s.stand a)
 
       goes : (name : LinkName) (o : OutSeen) → Acts (kind_of e) keeps i (marked_in (kind_of e) q) q q' (Some (name, o)) → GoesIn (state credit names (events ++ e ∷ [])) name
       goes name o k =
@@ -299,7 +306,7 @@ module _ (credit : CreditSpec) (names : List (List ℕ)) (events : List Event) w
   kept_on q ks e i s kept enabled named =
       let there : id_of (state credit names events) (by_of e) ≡ Some (i + 1) = sym (found q (by_of e) s) ∙ named in
       subst (λ u. KeepsStand u (all_kept_after (kind_of e) i q ks)) (sym (last_append (opening credit names) events (e ∷ []) ∙ done_there (state credit names events) (i + 1) e there))
-      (keeps_go credit (state credit names events) (kind_of e) i q ks (lawful_after credit names events s.journal) (sym (refused_there (state credit names events) (i + 1) e there) ∙ enabled)
+      (keeps_go credit (state credit names events) (kind_of e) i q ks (lawful_after credit names events s.journal) (later_fit credit names events s.journal e (i + 1) there enabled) (sym (refused_there (state credit names events) (i + 1) e there) ∙ enabled)
       (within_after credit names events q i s (found_place q (by_of e) i named)) s.stand kept)
 
   -- there are as many members then

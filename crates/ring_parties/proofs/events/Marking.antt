@@ -1,4 +1,4 @@
--- A refresh, a mark and an erasure, as steps of the ring: the parties stand in the state after them.
+-- A refresh, a mark, an erasure and a registration, as steps of the ring: the parties stand in the state after them.
 use Rattle.std.proofs.Common.{◌≡◌, ℕ, ◌+◌, ◌-◌, ◌<◌, ◌≤◌, Bool, true, false, not, nat_eq, nat_le, List, [], ◌∷◌, ◌++◌, length, get_or, max, Option, Some, None, refl, sym, ap, subst, ◌∙◌, arith}
 use Rattle.std.specs.Prelude.{◌&&◌}
 use Rattle.std.specs.List.{filter}
@@ -6,7 +6,7 @@ use Rattle.std.proofs.lemmas.Bool.{false≢true}
 use Rattle.ring_names.specs.declared.numbers.CreditSpec.{CreditSpec}
 use Rattle.group_view.specs.declared.link.LinkName.{LinkName}
 use Rattle.group_view.specs.View.{Group, entry_in}
-use Rattle.group_view.specs.Change.{marked, erased}
+use Rattle.group_view.specs.Change.{marked, erased, registered}
 use Rattle.group_view.specs.Since.{no_group}
 use Rattle.group_view.specs.Since as since
 use Rattle.promotion.specs.Elect.{installed}
@@ -18,12 +18,12 @@ use Rattle.ring_rules.specs.View.{right_of}
 use Rattle.ring_rules.specs.Machine.{World, Link, no_sending, numbers_at, member_at, link_at, view_in, newest, left, row_at}
 use Rattle.ring_rules.specs.OpenLinks.{version_of, since_in, comes_from_left, is_door_link}
 use Rattle.ring_rules.specs.Step.{size, log_of, next_lines, with_view}
-use Rattle.ring_rules.specs.Event.{id_of, of_member, mark_refusal, erase_refusal, erased_view, refresh_refusal, refused_as, refreshed, done_as}
-use Rattle.ring_rules.proofs.events.WhatRefuses.{MayLook, MayMark, MayErase}
+use Rattle.ring_rules.specs.Event.{id_of, of_member, mark_refusal, erase_refusal, synced_refusal, erased_view, refresh_refusal, refused_as, refreshed, done_as}
+use Rattle.ring_rules.proofs.events.WhatRefuses.{MayLook, MayMark, MayErase, MaySync}
 use Rattle.ring_rules.proofs.events.Enabled.{up_none}
-use Rattle.ring_rules.proofs.events.Cases.{may_look, may_mark, may_erase}
+use Rattle.ring_rules.proofs.events.Cases.{IsUp, may_look, may_mark, may_erase, may_sync}
 use Rattle.ring_rules.proofs.walks.Views.{view_old, left_old}
-use Rattle.ring_rules.proofs.invariants.Happens.{IsGood, mark_good, erase_good, newer_look, newer_good}
+use Rattle.ring_rules.proofs.invariants.Happens.{IsGood, mark_good, erase_good, sync_there, sync_good, newer_look, newer_good}
 use Rattle.activity.specs.LastSent.{never_sent}
 use Rattle.activity.specs.Diff.{next_line}
 use Rattle.gm_member.specs.Packets.{places, known_at, last_sent_at}
@@ -235,3 +235,14 @@ erase_between credit w keeps q q' i p origin replaced h r lt there =
     follow_between credit w (done_as w (i + 1) (Changes (change.Erase origin))) q q' i (λ g. installed (erased g p)) replaced h
     (record { some = omega arith; is_member = m.is_member; up = m.up; good = erase_good w p m.dead h.fit.good })
     (found_does (id_of w origin) p w (λ e. refreshed (with_view w (erased_view w e)) (i + 1) (newest w + 1)) there)
+
+-- ---- a registration
+
+pub register_between : (credit : CreditSpec) (w : World) (keeps : Keeps) (q q' : Parties) (i d : ℕ) (replaced : Option (LinkName × OutSeen)) → IsLawfulAt credit w → refused_as w (i + 1) (Changes change.Register) ≡ None → i + 1 < size w
+    → Stand credit.initial w q → filter (waits_at (i + 1)) q.deposits ≡ [] → Acts (Changes change.Register) keeps i d q q' replaced → StandMoved credit.initial (i + 1) (done_as w (i + 1) (Changes change.Register)) q' replaced
+register_between credit w keeps q q' i d replaced h r lt =
+    let a = up_none w (i + 1) (synced_refusal w (i + 1)) r in
+    let u : IsUp w (i + 1) = record { some = omega arith; lt = lt; up = a.0 } in
+    let m : MaySync w (i + 1) = may_sync w (i + 1) u a.1 in
+    follow_between credit w (done_as w (i + 1) (Changes change.Register)) q q' i (λ g. installed (registered g (i + 1))) replaced h
+    (record { some = omega arith; is_member = m.is_member; up = m.up; good = sync_good w (i + 1) (sync_there w (i + 1) m h.fit.good) h.fit.good }) refl

@@ -11,12 +11,13 @@ use Rattle.group_view.specs.Change.{new_entry, with_entry, dated}
 use Rattle.group_view.proofs.Marks.{same_ring_all, dated_keeps}
 use Rattle.group_view.proofs.Joining.{in_after, ids-with_entry}
 use Rattle.group_view.proofs.Groups.{ids-marked_group, ids-remarked_group}
+use Rattle.group_view.proofs.Syncing.{same_ring_registered}
 use Rattle.ring_rules.specs.Refusal.{refuse_if, or_else}
 use Rattle.registrar.specs.Registry.{Registry, is_known, newest}
 use Rattle.registrar.specs.Asked.{request_refusal}
 use Rattle.registrar.specs.Handled.{with_view, handled, answered}
 use Rattle.gm_member.specs.declared.questions.Ask.{Ask}
-use Rattle.gm_member.specs.declared.questions.Ask.TheVariants.{Mark, Admit, Erase, Refresh, Collect}
+use Rattle.gm_member.specs.declared.questions.Ask.TheVariants.{Mark, Admit, Erase, Register, Refresh, Collect}
 use Rattle.gm_member.specs.Held.{Held}
 use Rattle.gm_member.specs.Shown.{When}
 use Rattle.gm_member.specs.Questions.{may_bring_view, asked_for}
@@ -31,11 +32,16 @@ known_first : (b : Bool) (later : Option Reason) → (if not b then Some Unknown
 known_first true later e = refl
 known_first false later e = cc
 
+known_before : (b : Bool) (later further : Option Reason) → or_else (if not b then Some UnknownMember else later) further ≡ None → b ≡ true
+known_before true later further e = refl
+known_before false later further e = cc
+
 -- a view that is made may be answered
 pub made_brings : (what : Ask) (A : Type 0) → makes_view what ≡ true → When (may_bring_view what) A → A
 made_brings (Mark dead) A e a = a
 made_brings (Admit name) A e a = a
 made_brings (Erase origin) A e a = a
+made_brings (Register missing) A e a = a
 made_brings Refresh A e a = absurd (false≢true e)
 made_brings Collect A e a = absurd (false≢true e)
 
@@ -45,6 +51,7 @@ module _ {I : Type 0} where
   made_answered r h (Mark dead) e = refl
   made_answered r h (Admit name) e = refl
   made_answered r h (Erase origin) e = refl
+  made_answered r h (Register missing) e = refl
   made_answered r h Refresh e = absurd (false≢true e)
   made_answered r h Collect e = absurd (false≢true e)
 
@@ -53,6 +60,7 @@ module _ {I : Type 0} where
   made_handled r h (Mark dead) e = refl
   made_handled r h (Admit name) e = refl
   made_handled r h (Erase origin) e = refl
+  made_handled r h (Register missing) e = refl
   made_handled r h Refresh e = absurd (false≢true e)
   made_handled r h Collect e = absurd (false≢true e)
 
@@ -65,6 +73,7 @@ module _ {I : Type 0} where
       ap (is_in x) ((same_ring_all (dated (g.version + 1) g.entries come) come (dated_keeps (g.version + 1) g.entries come)).same_ids ∙ ids-with_entry x (new_entry g.next_id name (g.version + 1)) g.entries)
       ∙ in_after x g.next_id x (ids g.entries) i
   made_stands r x (Erase origin) i = ap (is_in x) (ids-remarked_group Erased (newest r) origin.0) ∙ i
+  made_stands r x (Register missing) i = ap (is_in x) (same_ring_registered (newest r) x).same_ids ∙ i
   made_stands r x Refresh i = i
   made_stands r x Collect i = i
 
@@ -73,5 +82,6 @@ module _ {I : Type 0} where
   asker_known r h (Mark dead) e m = not_refused_first _ _ _ e
   asker_known r h (Admit name) e m = known_first (is_in h.id (ids (newest r).entries)) _ e
   asker_known r h (Erase origin) e m = not_refused_first _ _ _ e
+  asker_known r h (Register missing) e m = known_before (is_in h.id (ids (newest r).entries)) _ _ e
   asker_known r h Refresh e m = absurd (false≢true m)
   asker_known r h Collect e m = absurd (false≢true m)

@@ -33,14 +33,14 @@ use Rattle.ring_parties.specs.Parties.{Shown, Keeps, Deposit, Parties, parties, 
 use Rattle.ring_parties.specs.States.{state}
 use Rattle.ring_parties.specs.Standing.{Stand, StandIn, StandAfter}
 use Rattle.ring_parties.specs.Acting.{step_refused, waits_at, received, is_kept_by, newest_of}
-use Rattle.ring_parties.specs.Refused.{id_named, with_deposits, erase_refused, admission_refused, own_refused}
+use Rattle.ring_parties.specs.Refused.{id_named, with_deposits, erase_refused, synced_refused, admission_refused, own_refused}
 use Rattle.ring_parties.proofs.work.Fresh.{reached_fresh}
 use Rattle.ring_parties.proofs.work.Lawful.{IsLawfulAt}
 use Rattle.ring_parties.proofs.events.After.{lawful_after, member_after, id_after}
 use Rattle.ring_parties.proofs.events.Refusals.{IsOwn, own_refuses, step_refuses}
 use Rattle.ring_parties.proofs.events.Found.{named_alike}
 use Rattle.ring_parties.proofs.events.OneEvent.{held_but_door}
-use Rattle.ring_parties.proofs.events.Refusing.{mark_refuses, nobody_named, erase_refuses, admit_refuses}
+use Rattle.ring_parties.proofs.events.Refusing.{mark_refuses, nobody_named, erase_refuses, synced_refuses, admit_refuses}
 use Rattle.ring_parties.proofs.deposits.Collections.{AreFresh, without_to, none_to, collected}
 use Rattle.ring_parties.proofs.deposits.Handing.{registrar_stands}
 use Rattle.ring_parties.proofs.deposits.Waiting.{registrar_waits}
@@ -132,6 +132,9 @@ module _ (credit : CreditSpec) (names : List (List ℕ)) (events : List Event) (
     pub erase_reads : (origin : List ℕ) (p : ℕ) → id_named q origin ≡ Some p → erase_refused r (node_at q i) (Some p) ≡ refused_as w x (Changes (change.Erase origin))
     erase_reads origin p there = subst (λ j. erase_refused r (node_at q j) (Some p) ≡ refused_as w x (Changes (change.Erase origin))) place
         (erase_refuses credit w r q x p origin lawful rs s.stand some lt (other_named origin ∙ there))
+
+    pub synced_reads : (keeps : Keeps) → keeps ≡ keeps_of w x → synced_refused r keeps (node_at q i) ≡ refused_as w x (Changes change.Register)
+    synced_reads keeps kept = subst (λ j. synced_refused r keeps (node_at q j) ≡ refused_as w x (Changes change.Register)) place (synced_refuses credit w r q keeps x lawful rs s.stand kept some lt)
 
     pub mark_reads : (dead : List ℕ) (d : ℕ) → id_named q dead ≡ Some d
         → up_refused (node_at q i).held (mark_refusal r (node_at q i).held.id d (node_at q i).held.view.version (has_link (with_deposits (node_at q i).held q.deposits))) ≡ refused_as w x (Changes (change.Mark dead))

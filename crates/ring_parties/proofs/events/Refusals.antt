@@ -1,7 +1,7 @@
 -- What a member of a cluster whose ends have met refuses, the ring refuses, for the same reason.
 use Rattle.std.proofs.Common.{◌≡◌, ℕ, ◌-◌, ◌<◌, ◌≤◌, true, List, [], ◌∷◌, ◌++◌, length, Option, Some, None, refl, sym, ap, ◌∙◌, append-nil}
 use Rattle.std.proofs.lemmas.Option.{none-some}
-use Rattle.std.specs.Prelude.{option_map, slice_index_or}
+use Rattle.std.specs.Prelude.{⊤, option_map, slice_index_or}
 use Rattle.ring_names.specs.declared.numbers.CreditSpec.{CreditSpec}
 use Rattle.ring_names.specs.declared.reason.Reason.{Reason}
 use Rattle.ring_names.specs.declared.reason.Reason.TheVariants as reason
@@ -26,7 +26,6 @@ use Rattle.gm_member.proofs.Refusals.{take_refusal_is, end_refusal_is}
 use Rattle.ring_parties.specs.Ends.{packets_in, end_items, items_in, Carries, HaveMet}
 use Rattle.ring_parties.specs.Parties.{Shown, Keeps, Parties, node_at}
 use Rattle.ring_parties.specs.Keeps.{keeps_of}
-use Rattle.ring_parties.specs.States.{is_played_kind}
 use Rattle.ring_parties.specs.Standing.{Places, MemberStands, StandIn, Stand, AllHaveMet, has_in, has_out}
 use Rattle.ring_parties.specs.Acting.{step_refused, first_item, items_refused, end_refused, back_of, packet_refused, link_end_refused, grant_refused, newest_of}
 use Rattle.ring_parties.specs.Refused.{own_refused}
@@ -68,7 +67,7 @@ its_items credit w q p x s m h st met a e =
 abbrev pub IsOwn : Kind → ℕ → Parties → Type 0
 IsOwn (Changes c) x q = ⊥
 IsOwn (Steps step.Pick) x q = NoneDeposited q x
-IsOwn k x q = is_played_kind k ≡ true
+IsOwn k x q = ⊤
 
 -- with a member found
 module _ (credit : CreditSpec) (w : World) (q : Parties) (x : ℕ) (h : IsLawfulAt credit w) (st : Stand credit.initial w q) (some : 1 ≤ x) (lt : x < size w) where
@@ -84,7 +83,7 @@ module _ (credit : CreditSpec) (w : World) (q : Parties) (x : ℕ) (h : IsLawful
   same : m.held ≡ record (held_in w x) { door = m.held.door }
   same = held_but_door w p x m stands
 
-  packet_refusal_is : packet_refused (node_at q (x - 1)) ≡ refused_as w x (Steps step.Take)
+  pub packet_refusal_is : packet_refused (node_at q (x - 1)) ≡ refused_as w x (Steps step.Take)
   packet_refusal_is =
       let version : m.held.view.version ≡ (member_at w x).version = ap (λ (g : Held). g.view.version) same ∙ version_is w x h.fit in
       let later : Option Reason = items_refused m.held.view.version (first_item m.ends.link) in

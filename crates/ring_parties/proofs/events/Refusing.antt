@@ -1,4 +1,4 @@
--- Why a member's refresh, mark or erasure, and what it tells a client, is refused: as the ring's.
+-- Why a member's refresh, mark, erasure or registration, and what it tells a client, is refused: as the ring's.
 use Rattle.std.proofs.Common.{◌≡◌, ℕ, ◌+◌, ◌-◌, ◌<◌, ◌≤◌, Bool, true, false, cond, nat_eq, nat_lt, nat_le, List, [], ◌∷◌, ◌++◌, map, Option, Some, None, is_some, refl, sym, ap, ◌∙◌, arith, not}
 use Rattle.std.specs.Prelude.{◌&&◌, ◌||◌, option_map}
 use Rattle.std.specs.List.{filter}
@@ -14,7 +14,7 @@ use Rattle.group_view.specs.Since.{view_at}
 use Rattle.ring_rules.specs.Refusal.{refuse_if, or_else}
 use Rattle.ring_rules.specs.declared.phase.Phase.{Phase}
 use Rattle.ring_rules.specs.declared.phase.Phase.TheVariants.{Waiting, Up, Stopped}
-use Rattle.ring_rules.specs.declared.event.Event.TheVariants.{Mark, Erase}
+use Rattle.ring_rules.specs.declared.event.Event.TheVariants.{Mark, Erase, Synced}
 use Rattle.ring_rules.specs.declared.kind.ViewChange.TheVariants as change
 use Rattle.ring_rules.specs.declared.kind.Asking.TheVariants as asking
 use Rattle.ring_rules.specs.Kind.{Own, OfQueue, Publishes, Does, Saying, Says, Changes, Reads, Tells}
@@ -29,9 +29,9 @@ use Rattle.ring_rules.proofs.invariants.Happens.{IsGood}
 use Rattle.ring_rules.proofs.events.Refusals.{id_within, cond_or, up_is}
 use Rattle.registrar.specs.declared.waiting_link.WaitingLink.{WaitingLink}
 use Rattle.registrar.specs.Registry.{Registry, is_known, newest as newest_view}
-use Rattle.registrar.specs.Asked.{mark_refusal, erase_refusal, is_ring_from, waits_from, since_in, is_left, is_beside}
+use Rattle.registrar.specs.Asked.{mark_refusal, erase_refusal, synced_refusal, is_ring_from, waits_from, since_in, is_left, is_beside}
 use Rattle.registrar.specs.Stands.{StandsIn}
-use Rattle.registrar.proofs.Judged.{mark_judged, erase_judged}
+use Rattle.registrar.proofs.Judged.{mark_judged, erase_judged, synced_judged}
 use Rattle.activity.specs.Kept.{Kept, got_of}
 use Rattle.gm_member.specs.Packets.{known_at}
 use Rattle.gm_member.specs.Held.{Held, up_refused, active_refused, first_at_door}
@@ -56,7 +56,7 @@ use Rattle.ring_parties.proofs.events.Marking.{held_whole, newest_is}
 use Rattle.ring_parties.proofs.lists.Truth.{made_some}
 use Rattle.group_view.specs.Ring.{is_in}
 use Rattle.ring_parties.specs.Looking.{ask_refused, view_for}
-use Rattle.ring_parties.specs.Refused.{waiting_link_of, office_of, mark_refused, erase_refused, admission_refused, client_refused, telling_refused}
+use Rattle.ring_parties.specs.Refused.{waiting_link_of, office_of, mark_refused, erase_refused, synced_refused, admission_refused, client_refused, telling_refused}
 
 -- ---- a refresh
 
@@ -172,6 +172,21 @@ module _ {I : Type 0} where
       (λ up. erase_judged w r x p u (got_of (known_at (held_in w x).known (p - 1))) (known_at (held_in w x).known (p - 1)).retired (Erase name origin) g.fit.good st
       (record { name = name; origin_name = origin; asker = record { named = named; up = up; holds = refl }; named = there; got = sym got; retired = sym retired; is = refl }) ∙ refused_there w x (Erase name origin) named)
 
+-- ---- a registration
+
+module _ {I : Type 0} where
+  -- by the newest view, and by what the member's mirror lacks
+  pub synced_refuses : (credit : CreditSpec) (w : World) (r : Registry I) (q : Parties) (keeps : Keeps) (x : ℕ) → IsLawfulAt credit w → StandsIn w r → Stand credit.initial w q → keeps ≡ keeps_of w x → 1 ≤ x → x < size w
+      → synced_refused r keeps (node_at q (x - 1)) ≡ refused_as w x (Changes change.Register)
+  synced_refuses credit w r q keeps x g st stand kept some lt =
+      let name : List ℕ = (member_at w x).name in
+      let named : id_of w name ≡ Some x = g.fit.named x some lt in
+      let missing : Option ℕ = (member_at w x).mirror.missing in
+      ap (λ (k : Keeps). synced_refused r k (node_at q (x - 1))) kept
+      ∙ ap (λ (k : Held). up_refused k (synced_refusal r k.id missing)) (held_but_door w stand.places x (node_at q (x - 1)) (stand.stand.each x some lt))
+      ∙ by_registrar w x (synced_refusal r x missing) (event.synced_refusal w x)
+      (λ up. synced_judged w r x (member_at w x).version missing name g.fit.good st (record { named = named; up = up; holds = refl }) refl ∙ refused_there w x (Synced name) named)
+
 -- ---- what a client asks
 
 -- a member says nothing just where the ring refuses it, for the same reason
@@ -234,6 +249,7 @@ pub ask_same : (nodes : List Party) (r : Registry (PlainIn Load)) (m : Shown) (w
 ask_same nodes r m (ask.Mark dead) = mark_same nodes r m dead.0
 ask_same nodes r m (ask.Admit name) = refl
 ask_same nodes r m (ask.Erase origin) = refl
+ask_same nodes r m (ask.Register missing) = refl
 ask_same nodes r m ask.Refresh = refl
 ask_same nodes r m ask.Collect = refl
 
@@ -242,5 +258,6 @@ pub view_for_same : (nodes : List Party) (r : Registry (PlainIn Load)) (x : ℕ)
 view_for_same nodes r x (ask.Mark dead) = refl
 view_for_same nodes r x (ask.Admit name) = refl
 view_for_same nodes r x (ask.Erase origin) = refl
+view_for_same nodes r x (ask.Register missing) = refl
 view_for_same nodes r x ask.Refresh = refl
 view_for_same nodes r x ask.Collect = refl

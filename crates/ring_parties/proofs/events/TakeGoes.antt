@@ -16,7 +16,7 @@ use Rattle.ring_rules.specs.Refusal.{is_empty}
 use Rattle.ring_rules.specs.Machine.{World, Member, Packet, Sending, Link, no_link, no_packet, member_at, link_at, is_waiting, oldest}
 use Rattle.ring_rules.specs.Compact.{passed}
 use Rattle.ring_rules.specs.Step.{size, with_member, with_link, taker, begun, popped}
-use Rattle.ring_rules.specs.Event.{running_refusal, on_link, take_refusal, holds_nothing, at_found, taken_by, is_stopped, refused_as, done_as}
+use Rattle.ring_rules.specs.Event.{take_refusal, holds_nothing, at_found, taken_by, is_stopped, refused_as, done_as}
 use Rattle.ring_rules.proofs.events.Enabled.{running_later, take_effect}
 use Rattle.ring_rules.proofs.events.Refusals.{none_of, not_less}
 use Rattle.gm_member.specs.Packets.{PacketById}
@@ -79,7 +79,7 @@ take_rested o n n' k due t r = record { moved = r.moved; room = omega (arith, r.
 
 -- ---- what the member holds
 
-took_door : (g : Held) (ds : List Incoming) (k : PacketById) → took_held (record g { door = ds }) k ≡ record (took_held g k) { door = ds }
+pub took_door : (g : Held) (ds : List Incoming) (k : PacketById) → took_held (record g { door = ds }) k ≡ record (took_held g k) { door = ds }
 took_door g ds k = by_current g.current
   where
     by_phase : (a : Incoming) (b : Bool) → cond b (began_from (record g { door = ds }) k a) (took_from (record g { door = ds }) k a) ≡ record (cond b (began_from g k a) (took_from g k a)) { door = ds }
@@ -94,18 +94,18 @@ took_door g ds k = by_current g.current
 -- ---- the parties
 
 -- x is y, and the oldest packet is gone from link s
-abbrev takes_in : World → ℕ → ℕ → Member → World
+abbrev pub takes_in : World → ℕ → ℕ → Member → World
 takes_in w x s y = with_link (with_member w x y) s (popped (link_at w s))
 
 -- x takes from link s, and is y then.
-record TakesAs (w : World) (x s : ℕ) (k : PacketById) (y : Member) : Type 0 where
-  is_member : x < size w
-  current : (member_at w x).current ≡ Some s
-  has : is_empty (link_at w s).packets ≡ false
-  same : (y.version ≡ (member_at w x).version) × (y.current ≡ (member_at w x).current) × (y.out ≡ (member_at w x).out) × (y.log ≡ (member_at w x).log)
-  runs_on : is_stopped y.phase ≡ is_stopped (member_at w x).phase
-  stands : k.lines ≡ lines_in w (link_at w s).had (oldest (link_at w s)) → took_held (held_in w x) k ≡ held_in (takes_in w x s y) x
-  others : (z : ℕ) → z ≢ x → held_in w z ≡ held_in (takes_in w x s y) z
+pub record TakesAs (w : World) (x s : ℕ) (k : PacketById) (y : Member) : Type 0 where
+  pub is_member : x < size w
+  pub current : (member_at w x).current ≡ Some s
+  pub has : is_empty (link_at w s).packets ≡ false
+  pub same : (y.version ≡ (member_at w x).version) × (y.current ≡ (member_at w x).current) × (y.out ≡ (member_at w x).out) × (y.log ≡ (member_at w x).log)
+  pub runs_on : is_stopped y.phase ≡ is_stopped (member_at w x).phase
+  pub stands : k.lines ≡ lines_in w (link_at w s).had (oldest (link_at w s)) → took_held (held_in w x) k ≡ held_in (takes_in w x s y) x
+  pub others : (z : ℕ) → z ≢ x → held_in w z ≡ held_in (takes_in w x s y) z
 
 take_ways : (w : World) (x s : ℕ) (k : PacketById) (y : Member) → s < length w.links → TakesAs w x s k y → SameWays w (takes_in w x s y)
 take_ways w x s k y sl t =
@@ -161,8 +161,30 @@ take_steps credit w i s q b n k y st h t takes e =
           (refl, ap (λ (c : Link). c.flow.grants) (other_link j ne));
     })
 
+-- A member that isn't refused a take takes the oldest packet of this link.
+pub record TakesNext (w : World) (x : ℕ) : Type 0 where
+  pub link : ℕ
+  pub runs : is_stopped (member_at w x).phase ≡ false
+  pub current : (member_at w x).current ≡ Some link
+  pub some : is_empty (link_at w link).packets ≡ false
+  pub version : (oldest (link_at w link)).version ≤ (member_at w x).version
+
+pub takes_next : (w : World) (x : ℕ) → refused_as w x (Steps step.Take) ≡ None → TakesNext w x
+takes_next w x enabled =
+    let there = link_there (member_at w x).current reason.NoCurrentLink (take_refusal w x) (running_later w x _ enabled) in
+    let s : ℕ = there.0 in
+    let some = none_of (holds_nothing (link_at w s)) reason.NothingToTake _ there.2 in
+    let packet = none_of (is_empty (link_at w s).packets) reason.EndNext _ some.1 in
+    record {
+      link = s;
+      runs = (none_of (is_stopped (member_at w x).phase) reason.Stopped _ enabled).0;
+      current = there.1;
+      some = packet.0;
+      version = not_less (member_at w x).version (oldest (link_at w s)).version _ packet.1;
+    }
+
 -- of who waits, and of who is up
-takes_as : (w : World) (x s : ℕ) (k : PacketById) (f : Phase) → IsFit w → (member_at w x).phase ≡ f → is_stopped f ≡ false → 1 ≤ x → x < size w → (member_at w x).current ≡ Some s → is_empty (link_at w s).packets ≡ false → (oldest (link_at w s)).version ≤ (member_at w x).version
+pub takes_as : (w : World) (x s : ℕ) (k : PacketById) (f : Phase) → IsFit w → (member_at w x).phase ≡ f → is_stopped f ≡ false → 1 ≤ x → x < size w → (member_at w x).current ≡ Some s → is_empty (link_at w s).packets ≡ false → (oldest (link_at w s)).version ≤ (member_at w x).version
     → (y : Member) × TakesAs w x s k y × (at_found (member_at w x).current w (taken_by (member_at w x).phase w x) ≡ takes_in w x s y)
 takes_as w x s k Waiting f waits runs some lt current has version =
     let t : BeginsFrom w x s = record { some = some; is_member = lt; waits = waits; current = current; has = has; version = version } in (
@@ -199,15 +221,10 @@ take_goes credit w keeps i d q q' replaced h enabled lt st (b, (k, n, n', ends_l
     let x : ℕ = i + 1 in
     let p : Places = st.places in
     let a : MemberStands w p x (node_at q i) = stands_at credit.initial w q p i st.stand lt in
-    let acts : running_refusal w x (on_link (member_at w x).current reason.NoCurrentLink (take_refusal w x)) ≡ None = enabled in
-    let runs = none_of (is_stopped (member_at w x).phase) reason.Stopped _ acts in
-    let there = link_there (member_at w x).current reason.NoCurrentLink (take_refusal w x) (running_later w x _ acts) in
-    let s : ℕ = there.0 in
-    let current : (member_at w x).current ≡ Some s = there.1 in
-    let some = none_of (holds_nothing (link_at w s)) reason.NothingToTake _ there.2 in
-    let packet = none_of (is_empty (link_at w s).packets) reason.EndNext _ some.1 in
-    let version = not_less (member_at w x).version (oldest (link_at w s)).version _ packet.1 in
-    let t = takes_as w x s k (member_at w x).phase h.fit refl runs.0 (omega arith) lt current packet.0 version in
+    let next : TakesNext w x = takes_next w x enabled in
+    let s : ℕ = next.link in
+    let current : (member_at w x).current ≡ Some s = next.current in
+    let t = takes_as w x s k (member_at w x).phase h.fit refl next.runs (omega arith) lt current next.some next.version in
     let y : Member = t.0 in
     let same_end : p.ins s ≡ n = made_of p.ins (member_at w x).current s n current (sym a.link ∙ ends_link) in
     let its : TakesIn (due_of (node_at q i).held) (p.ins s) (sent_of k) n' = subst (λ e. TakesIn (due_of (node_at q i).held) e (sent_of k) n') (sym same_end) takes in

@@ -22,11 +22,13 @@ use Rattle.ring_rules.proofs.invariants.Opening.{opening_ids, in_range}
 use Rattle.gm_member.specs.Packets.{places}
 use Rattle.gm_member.specs.Held.{Held, founded, fresh_in as fresh_incoming, fresh_out as fresh_outgoing}
 use Rattle.gm_member.specs.Stands.{kept_by, last_sent_in, held_in, outgoing_in, incoming_in, waits_for, door_links}
+use Rattle.confirm_book.specs.Book.{book_in}
+use Rattle.gm_member.proofs.Facts.{right_row}
 use Rattle.gm_member.proofs.Fit.{IsFit, reached_fit}
 use Rattle.gm_member.proofs.Parts.{held_is, known_by, current_waits_not, other_waits_not}
 use Rattle.ring_parties.specs.Ends.{Carries, fresh_out, fresh_in}
 use Rattle.ring_parties.specs.Parties.{node_at, no_shown, Keeps}
-use Rattle.ring_parties.specs.Keeps.{KeepsStand, no_keeps}
+use Rattle.ring_parties.specs.Keeps.{KeepsStand, no_keeps, kind_of_message, round_of}
 use Rattle.ring_parties.specs.Opened.{opened_at, opened_parties}
 use Rattle.ring_parties.specs.Standing.{Places, MemberStands, StandAfter, has_out, HaveDone}
 use Rattle.ring_parties.proofs.lists.Lists.{none_of_range}
@@ -146,13 +148,22 @@ module _ (credit : CreditSpec) (names : List (List ℕ)) (are : AreOpeningNames 
   met_first true = record { moved = refl; given = refl; free = omega arith; room = omega arith }
   met_first false = record { moved = refl; room = omega arith }
 
+  -- no message has come round
+  round_none : (x : ℕ) → 1 ≤ x → x < size (opening credit names) → round_of (opening credit names) x ≡ 0
+  round_none x a b =
+      let r = right_row (opening credit names) x x fit in
+      let own = fit.own x in
+      let none : length (log_of (opening credit names) x) ≡ 0 = ap (λ (m : Member). length m.log) (first_member credit names x a b) in
+      omega (arith, r.forgot, own, none)
+
   -- what its parties keep is what their members have there
   pub opened_keeps : (ks : List Keeps) → ks ≡ map (λ (k : ℕ). no_keeps) (range_with_len 0 (length names)) → KeepsStand (opening credit names) ks
   opened_keeps ks is = subst (KeepsStand (opening credit names)) (sym is) (record {
     count = omega (arith, length-map-range_with_len (λ (k : ℕ). no_keeps) 0 (length names), first_size credit names);
     each = λ x a b.
         get_or-map-range_with_len (λ (k : ℕ). no_keeps) 0 (length names) (x - 1) (x - 1) no_keeps (omega (arith, a, b, first_size credit names)) (omega arith)
-        ∙ ap (λ (m : Member). record { mirror = m.mirror; started = m.started; told = m.told }) (sym (first_member credit names x a b));
+        ∙ ap (λ n. record no_keeps { book = book_in n [] }) (sym (round_none x a b))
+        ∙ ap (λ (m : Member). record { mirror = m.mirror; started = m.started; told = m.told; book = book_in (round_of (opening credit names) x) (map kind_of_message m.log) }) (sym (first_member credit names x a b));
   })
 
   pub opened_stand : StandAfter credit names [] (opened_parties credit names)

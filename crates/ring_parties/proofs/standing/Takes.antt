@@ -31,7 +31,7 @@ use Rattle.gm_member.specs.Ends.{EndLooks, NothingIsNext, EndIsNext, PacketIsNex
 use Rattle.gm_member.specs.Shown.{held_of, ends_of, LooksIn, TookOn, SameOut}
 use Rattle.ring_rules.proofs.rests.Asked.{no_version}
 use Rattle.ring_parties.specs.Ends.{PacketShown, InSeen}
-use Rattle.ring_parties.specs.Keeps.{ops_taken, ops_first, ops_next, messages_on}
+use Rattle.ring_parties.specs.Keeps.{own_known, round_first, round_next, ops_taken, ops_first, ops_next, messages_on}
 use Rattle.ring_parties.proofs.keeping.Coming.{news_few}
 use Rattle.ring_parties.specs.Parties.{ANode, Shown, content, out_seen, in_seen, named_out, named_in, ends_seen, shown_of}
 use Rattle.ring_parties.specs.Acting.{IsReady, TakesIn, TakesPacket, sent_of, due_of, items_refused, end_refused, first_item, packet_refused, link_end_refused}
@@ -102,6 +102,10 @@ take_first m n k ready (l, l', ml, nl, (i, j, a, b, li, looked, takes, waits, gr
 -- the operations that it brings are those of what stands first there
 pub take_ops : (m : ANode) (k : PacketById) (rest : List (Option PacketShown)) (taken : List Taken) → first_item (shown_of m).ends.link ≡ Some (sent_of k) ∷ rest → taken ≡ news_of (held_of m) k → ops_taken taken ≡ ops_next (shown_of m)
 take_ops m k rest taken first is = ap ops_taken is ∙ sym (ap (ops_first (held_of m)) first)
+
+-- so many of its own messages have come round to it then
+pub take_round : (m n : ANode) (k : PacketById) (rest : List (Option PacketShown)) → first_item (shown_of m).ends.link ≡ Some (sent_of k) ∷ rest → held_of n ≡ took_held (held_of m) k → (own_known (held_of n)).forgot ≡ round_next (shown_of m)
+take_round m n k rest first held = ap (λ h. (own_known h).forgot) held ∙ sym (ap (round_first (held_of m)) first)
 
 -- and it brings no more messages than its lines have
 pub take_few : (m : ANode) (k : PacketById) (rest : List (Option PacketShown)) (taken : List Taken) → first_item (shown_of m).ends.link ≡ Some (sent_of k) ∷ rest → taken ≡ news_of (held_of m) k

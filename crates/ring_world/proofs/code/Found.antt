@@ -1,4 +1,5 @@
 -- What the code needs of a state, of the structs.
+use Rattle.group_view.specs.Change.{most_entries}
 use Rattle.std.proofs.Common.{◌≡◌, ℕ, suc, ◌<◌, ◌≤◌, ◌+◌, true, List, length, map, get_or, Some, None, option_map, bytes_eq, refl, sym, ap, ◌∙◌, arith}
 use Rattle.std.proofs.lemmas.List.{length-map}
 use Rattle.std.specs.Prelude.{position, Option, IfSome, max}
@@ -23,7 +24,7 @@ current_within r i s o h l e up out =
     let same : member_in r.members.items i ≡ member_of s = read_member r.members.items i s l e in
     omega (arith, length-map r.links.items link_of, h.current (suc i) o (ap (λ m. runs_phase m.phase) same ∙ up) (ap (λ m. m.current) same ∙ out))
 
-pub few_members : (r : Ring) → IsPlaced (world_of r) → length r.members.items < 65
+pub few_members : (r : Ring) → IsPlaced (world_of r) → length r.members.items < most_entries + 1
 few_members r h = omega (arith, length-map r.members.items member_of, h.few)
 
 -- the version of a running member is one of those of the views

@@ -1,9 +1,6 @@
 //! Clusters of which some members stop, and to which others come, also where an allocation fails: tables of what is
 //! asked of them, with what is wanted to be seen then. What changes a ring is tried once more where it wants memory, but
 //! for a plain round.
-ghost use Rattle.std.specs.Prelude.{◌≡◌, true, IfOk};
-ghost use Rattle.ring_rules.specs.Event.{is_multicast};
-ghost use Rattle.ring_script.specs.Reading.{AreMulticast};
 
 use ring_cluster::Cluster;
 use ring_io::Gate;
@@ -102,9 +99,7 @@ fn count_of(counts: u64, who: u32) -> u64 {
 }
 
 /// The steps of a text.
-fn steps(alloc: Global, text: &str) -> Result<Steps, ScriptFault>
-    ensures { IfOk result (λ steps. AreMulticast steps.lines) }
-{
+fn steps(alloc: Global, text: &str) -> Result<Steps, ScriptFault> {
     match read_steps(alloc, text.as_bytes()) {
         Err(ScriptFault::OutOfMemory) => read_steps(alloc, text.as_bytes()),
         answer => answer,
@@ -120,9 +115,7 @@ fn happened(cluster: &Cluster) -> Result<usize, OutOfMemory> {
 }
 
 /// An event happens where the ring lets it.
-fn step(cluster: &mut Cluster, event: &Event) -> Result<(), OutOfMemory>
-    requires { is_multicast event.now ≡ true }
-{
+fn step(cluster: &mut Cluster, event: &Event) -> Result<(), OutOfMemory> {
     match cluster.step(event) {
         Err(Refused::OutOfMemory) => Err(OutOfMemory),
         _ => Ok(()),
@@ -130,9 +123,7 @@ fn step(cluster: &mut Cluster, event: &Event) -> Result<(), OutOfMemory>
 }
 
 /// The same, again where memory was wanted and it hasn't happened.
-fn step_again(cluster: &mut Cluster, event: &Event) -> Result<(), OutOfMemory>
-    requires { is_multicast event.now ≡ true }
-{
+fn step_again(cluster: &mut Cluster, event: &Event) -> Result<(), OutOfMemory> {
     let before = happened(cluster)?;
     match step(cluster, event) {
         Err(OutOfMemory) if happened(cluster)? == before => step(cluster, event),
@@ -233,10 +224,13 @@ fn has_heard(cluster: &Cluster, by: u32, of: u32, bodies: &str) -> Result<bool, 
     }
 }
 
-/// Whether those between two numbers are the bodies.
-fn are_bodies(published: &[&Body], base: usize, got: usize, bodies: &str) -> bool {
+/// Whether the casts between two numbers have these bodies.
+fn are_bodies(published: &[Option<&Body>], base: usize, got: usize, bodies: &str) -> bool {
     let mut wanted = bodies.split_whitespace();
-    for body in published.iter().take(got).skip(base) {
+    for message in published.iter().take(got).skip(base) {
+        let Some(body) = message else {
+            continue;
+        };
         match wanted.next() {
             Some(text) if text.as_bytes() == body.bytes() => {}
             _ => return false,
@@ -315,7 +309,8 @@ fn three_members_settle(rt: HostRuntime) -> Result<(), Fail> {
     play(&rt, "members a b c", &THREE_SETTLE)
 }
 
-/// In the round `a` refuses its task, `b` does its own, and `c` has `a` marked dead.
+/// In the round `a` refuses its task, `b` does its own, and `c` has `a` marked dead. `b` leads then, so its start comes
+/// round too.
 const AGENDA_OF_WHO_STOPPED: [Line; 20] = [
     Line::Ask("a", "a1"),
     Line::Ask("b", "b1"),
@@ -332,7 +327,7 @@ const AGENDA_OF_WHO_STOPPED: [Line; 20] = [
     Line::Heard(2, 1, ""),
     Line::Heard(2, 2, "b1"),
     Line::Heard(2, 3, "c1"),
-    Line::Confirmed(2, Some(1)),
+    Line::Confirmed(2, Some(2)),
     Line::Heard(3, 1, ""),
     Line::Heard(3, 2, "b1"),
     Line::Heard(3, 3, "c1"),
@@ -379,12 +374,13 @@ fn each_turn_is_between_two_passes(rt: HostRuntime) -> Result<(), Fail> {
     play(&rt, "members a b c", &AROUND_FAILED_TURNS)
 }
 
+/// It leads then, and its start comes round to it.
 const LEFT_ALONE: [Line; 8] = [
     Line::Steps("members a\nstop a", 1),
     Line::Ask("b", "b1"),
     Line::Settle,
     Line::Heard(2, 2, "b1"),
-    Line::Confirmed(2, Some(1)),
+    Line::Confirmed(2, Some(2)),
     Line::Steps("members b\nstop b", 1),
     Line::Settle,
     Line::View(3),
@@ -419,6 +415,7 @@ fn who_is_left_settles_again(rt: HostRuntime) -> Result<(), Fail> {
     play(&rt, "members a b c\ncredit 2 1", &SETTLED_AGAIN)
 }
 
+/// `a` tells the newcomer that there are no messages, so that one is registered as synchronised.
 const NEWCOMER_SETTLES: [Line; 18] = [
     Line::Ask("a", "a1"),
     Line::Settle,
@@ -429,15 +426,15 @@ const NEWCOMER_SETTLES: [Line; 18] = [
     Line::Ask("b", "b1"),
     Line::Ask("a", "a2"),
     Line::Settle,
-    Line::View(2),
+    Line::View(3),
     Line::Heard(1, 2, "b1"),
     Line::Heard(2, 1, "a1 a2"),
     Line::Heard(3, 1, "a2"),
     Line::Heard(3, 2, "b1"),
-    Line::Confirmed(1, Some(2)),
+    Line::Confirmed(1, Some(3)),
     Line::Confirmed(2, Some(1)),
     Line::Lacks(2, Some(0)),
-    Line::Lacks(3, None),
+    Line::Lacks(3, Some(0)),
 ];
 
 /// Who is admitted takes its turns in rounds and in the drain as all others do.

@@ -11,7 +11,7 @@ push-requires c =
     let at : c.place_of.result ≡ position (λ (a : Plan). bytes_eq a.name (asked_of c.args.task)) c.args.agendas.now.items =
     subst (λ n. c.place_of.result ≡ position (λ (a : Plan). bytes_eq a.name n) c.args.agendas.now.items) c.by.ensures
     (c.place_of.ensures.place ∙ ap (position (λ (a : Plan). bytes_eq a.name c.by.result.now)) c.deref.ensures.value) in
-    (sym (found_name c.args.agendas.now.items (asked_of c.args.task) c.in-Some.place c.index_mut.result.now (sym c.in-Some.is ∙ at) c.index_mut.ensures.value), c.requires)
+    sym (found_name c.args.agendas.now.items (asked_of c.args.task) c.in-Some.place c.index_mut.result.now (sym c.in-Some.is ∙ at) c.index_mut.ensures.value)
 
 pub returns-in_default-clause-ok : goal.returns-in_default-clause-ok
 returns-in_default-clause-ok c =

@@ -8,7 +8,7 @@ use Rattle.ring_cluster.proofs.rounds.Turning.{own_works, works_same}
 use Rattle.ring_cluster.proofs.driver.happens.Goals as goal
 
 pub happen-requires : goal.happen-requires
-happen-requires c = event_at_place (state_of c.args.cluster.now) c.args.event.now c.args.id.0 c.requires.within.0 c.requires.within.1 c.requires.named c.requires.multicast
+happen-requires c = event_at_place (state_of c.args.cluster.now) c.args.event.now c.args.id.0 c.requires.within.0 c.requires.within.1 c.requires.named
 
 pub returns-in-Ok-clause-does : goal.returns-in-Ok-clause-does
 returns-in-Ok-clause-does c = record {

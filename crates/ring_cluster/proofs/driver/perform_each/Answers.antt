@@ -21,3 +21,12 @@ loop-place-preserved c =
           (λ t. performed_less c.loop-place.place c.name_at-name.result c.loop-place.cluster c.perform.new.self c.is_going.ensures at (c.in_ok-did.ensures.done t))
           (λ f. rests_named c.loop-place.place c.name_at-name.result c.loop-place.cluster c.perform.new.self at (c.in_ok-did.ensures.none f)));
     }
+
+pub returns : goal.returns
+returns c =
+    let below = c.loop-place.invariant.finished in
+    record {
+      round = below.does;
+      falls = below.falls;
+      stays = λ none. (below.stays none, λ i name at. below.rests none i (omega (arith, at.0, c.loop-place.invariant.count, c.loop-place-test.false)) name at);
+    }

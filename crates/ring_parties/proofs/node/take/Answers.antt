@@ -2,7 +2,7 @@ use Rattle.std.proofs.Common.{rules}
 use Rattle.gm_member.specs.Packets.{packet_by_id}
 use Rattle.ring_parties.specs.Acting.{sent_of}
 use Rattle.ring_rules.proofs.code.Errors.{OnErr_of}
-use Rattle.ring_parties.proofs.standing.Takes.{takes_shown, take_enabled, take_refusal, not_judged, take_first, take_ops, take_few}
+use Rattle.ring_parties.proofs.standing.Takes.{takes_shown, take_enabled, take_refusal, not_judged, take_first, take_ops, take_round, take_few}
 use Rattle.ring_parties.proofs.node.take.Goals as goal
 
 pub returns-clause-judged : goal.returns-clause-judged
@@ -20,6 +20,12 @@ returns-clause-ops c =
     let ok = c.in_ok-taken.ensures.takes.ok in
     let first = take_first c.args.node.now c.take.new.self ok.0 c.requires ok.4 in
     take_ops c.args.node.now (packet_by_id ok.0) first.0 _ first.1 ok.3
+
+pub returns-clause-round : goal.returns-clause-round
+returns-clause-round c =
+    let ok = c.in_ok-taken.ensures.takes.ok in
+    let first = take_first c.args.node.now c.take.new.self ok.0 c.requires ok.4 in
+    take_round c.args.node.now c.take.new.self (packet_by_id ok.0) first.0 first.1 ok.2
 
 pub returns-clause-few : goal.returns-clause-few
 returns-clause-few c =

@@ -6,7 +6,8 @@ use Rattle.ring_rules.specs.Event.{IsRun}
 use Rattle.ring_journal.specs.Written.{IsWithin}
 use Rattle.ring_cluster.specs.Seen.{opening_seen}
 use Rattle.ringplay.specs.Performed.{HasTurns, IsPlayedBy, Tells, commands_on}
-use Rattle.ringplay.proofs.Playing.{all_turns, performed_of, has_run, played_all}
+use Rattle.ringplay.proofs.Playing.{all_turns, performed_of, has_run, given_all, played_all}
+use Rattle.ringplay.proofs.Positions.{played_names}
 use Rattle.ringplay.proofs.Keeping.{tells_so}
 use Rattle.ringplay.proofs.play.play.Goals as goal
 
@@ -25,10 +26,15 @@ with_journal-requires-clause-members g c =
 pub with_journal-requires-clause-within : goal.with_journal-requires-clause-within
 with_journal-requires-clause-within g c =
     let s = c.args.script in
+    let opens : c.in_ok-cluster.cluster ≡ opening_seen s.credit s.members =
+    c.in_ok-cluster.ensures.opens ∙ ap (opening_seen s.credit) (c.deref.ensures.value ∙ c.into_vec-names.ensures) in
     let of = performed_of s.credit s.members c.in_ok-cluster.cluster c.perform.new.cluster c.settle.new.self
-    (c.in_ok-cluster.ensures.opens ∙ ap (opening_seen s.credit) (c.deref.ensures.value ∙ c.into_vec-names.ensures)) c.in_ok-perform.ensures.ring c.in_ok-settle.ensures.goes in
+    opens c.in_ok-perform.ensures.ring c.in_ok-settle.ensures.goes in
     let ran = has_run s.credit s.members c.in_ok-journal.journal.items c.settle.new.self of.credit of.names c.in_ok-journal.ensures c.is_going.ensures in
-    subst (All IsWithin) (sym c.deref-3.ensures.value) (c.a_run_is_within.ensures.multicast s.credit s.members c.in_ok-journal.journal.items ran.are ran.run.run ran.multicast)
+    let given = given_all s c.in_ok-cluster.cluster c.perform.new.cluster c.settle.new.self opens
+    (c.in_ok-perform.ensures.given ∙ ap (λ lines. c.in_ok-cluster.cluster.given ++ commands_on lines) c.into_vec-lines.ensures) c.in_ok-settle.ensures.given in
+    subst (All IsWithin) (sym c.deref-3.ensures.value) (c.a_run_is_within.ensures.positions s.credit s.members c.in_ok-journal.journal.items ran.are ran.run.run
+    (played_names s c.settle.new.self c.in_ok-journal.journal.items c.requires given c.is_going.ensures (c.in_ok-settle.ensures.played c.perform.ensures.plays).served c.in_ok-journal.ensures))
 
 pub with_journal-requires-clause-run : goal.with_journal-requires-clause-run
 with_journal-requires-clause-run g c =

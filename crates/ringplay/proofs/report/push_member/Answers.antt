@@ -1,27 +1,30 @@
-use Rattle.std.proofs.Common.{◌+◌, ◌++◌, None, List, ℕ, ◌∙◌, ap, arith}
+use Rattle.std.proofs.Common.{◌≡◌, ◌+◌, ◌++◌, sym, ◌∙◌, ap}
 use Rattle.group_view.specs.View.{entry_in}
-use Rattle.ring_rules.specs.declared.shown.MemberState.{MemberState}
 use Rattle.ring_rules.specs.Asked.{state_of as stands_of}
-use Rattle.gm_member.specs.Shown.{held_of}
+use Rattle.ring_rules.specs.Machine.{member_at}
 use Rattle.ring_cluster.specs.Seen.{state_of}
 use Rattle.ring_report.specs.Lent.{lent_in}
-use Rattle.ring_report.specs.Report.{member_line, refusal_lines}
-use Rattle.ringplay.proofs.Reports.{lines_stand}
+use Rattle.ring_report.specs.Report.{stands_at, member_line, heard_lines, item_lines, while_up, refusal_lines}
+use Rattle.ring_report.proofs.Telling.{lines_stand}
 use Rattle.ringplay.proofs.report.push_member.Goals as goal
 
 pub returns : goal.returns
 returns c =
     let w = state_of c.args.cluster.now in
-    let h = held_of c.member_at-member.result.now in
-    let g = c.view.result.now in
+    let x = c.args.place + 1 in
+    let name = c.name.result.now in
+    let stands = c.stands-state.result in
+    let out = c.args.out.now.items in
+    let mirror = c.mirror_at-mirror.ensures in
     let refusals = lent_in c.args.refusals.now in
-    let line : List ℕ → MemberState → ℕ → List ℕ = λ name stands id. c.args.out.now.items ++ member_line name stands (entry_in g.entries id) in
-    lines_stand w refusals (c.args.place + 1) h g c.counts.result
-    c.args.out.now.items c.push_state.new.out.items c.push_counts.new.out.items c.push_heard.new.out.items c.push_refusals.new.out.items
-    c.requires.unused (omega arith) c.requires.within c.member_at-member.ensures c.view.ensures
-    (c.in_ok-push_state.ensures
-    ∙ ap (λ name. line name c.stands-state.result c.id.result.0) c.name.ensures
-    ∙ ap (λ stands. line h.name stands c.id.result.0) (c.stands-state.ensures ∙ ap (stands_of None) c.phase.ensures)
-    ∙ ap (line h.name (stands_of None h.phase)) c.id.ensures)
-    c.counts.ensures c.in_ok-push_counts.ensures c.in_ok-push_heard.ensures
-    (c.in_ok-push_refusals.ensures ∙ ap (λ name. c.push_heard.new.out.items ++ refusal_lines name refusals) c.name-2.ensures)
+    let where_it_stands : stands ≡ stands_at w x =
+    c.stands-state.ensures ∙ ap (λ n. stands_of n c.phase.result) (c.missing.ensures ∙ ap (λ m. m.missing) mirror)
+    ∙ ap (stands_of (member_at w x).mirror.missing) (c.phase.ensures ∙ c.member_at-member.ensures.phase) in
+    lines_stand w refusals x name c.view.result.now stands c.counts_at.result
+    out c.push_state.new.out.items c.push_counts.new.out.items c.push_heard.new.out.items c.push_items.new.out.items c.push_refusals.new.out.items
+    (c.name.ensures ∙ c.member_at-member.ensures.name) c.view.ensures where_it_stands c.counts_at.ensures
+    (c.in_ok-push_state.ensures ∙ ap (λ id. out ++ member_line name stands (entry_in c.view.result.now.entries id)) c.id_at-id.ensures)
+    c.in_ok-push_counts.ensures
+    (c.in_ok-push_heard.ensures ∙ ap (λ id. c.push_counts.new.out.items ++ while_up stands (heard_lines w id)) c.id_at-id.ensures)
+    (c.in_ok-push_items.ensures ∙ ap (λ m. c.push_heard.new.out.items ++ while_up stands (item_lines m.queue.items)) mirror)
+    (c.in_ok-push_refusals.ensures ∙ ap (λ n. c.push_items.new.out.items ++ refusal_lines n refusals) (c.name-2.ensures ∙ sym c.name.ensures))

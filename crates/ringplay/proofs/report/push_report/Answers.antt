@@ -6,17 +6,11 @@ use Rattle.ring_cluster.specs.Seen.{state_of}
 use Rattle.ring_report.specs.Lent.{lent_in}
 use Rattle.ring_report.specs.Report.{ring_line, lines_of_member, report_of}
 use Rattle.ring_report.proofs.Telling.{ids_more}
-use Rattle.ringplay.proofs.Reports.{logs_many}
+use Rattle.ringplay.proofs.Reports.{told_many}
 use Rattle.ringplay.proofs.report.push_report.Goals as goal
 
 pub push_member-requires-clause-within : goal.push_member-requires-clause-within
-push_member-requires-clause-within c = omega (arith, c.loop-place-test.true, logs_many (state_of c.args.cluster.now) c.in_ok-published.published.items c.in_ok-published.ensures)
-
-pub push_member-requires-clause-unused : goal.push_member-requires-clause-unused
-push_member-requires-clause-unused c =
-    let k = c.args.cluster.now in
-    let going = c.is_going.ensures in
-    c.multicasts_leave_the_queue_unused.ensures k.credit k.names k.events going.are going.run going.multicast
+push_member-requires-clause-within c = omega (arith, c.loop-place-test.true, told_many (state_of c.args.cluster.now) c.in_ok-published.published.items c.in_ok-published.ensures)
 
 pub loop-place-preserved : goal.loop-place-preserved
 loop-place-preserved c =
@@ -29,7 +23,7 @@ pub returns : goal.returns
 returns c =
     let k = c.args.cluster.now in
     let w = state_of k in
-    let all : c.loop-place.place ≡ size w - 1 = omega (arith, logs_many w c.in_ok-published.published.items c.in_ok-published.ensures) in
+    let all : c.loop-place.place ≡ size w - 1 = omega (arith, told_many w c.in_ok-published.published.items c.in_ok-published.ensures) in
     let lines = lines_of_member w (lent_in c.as_slice-refusals.result.now) in
     let told = flat_map lines (range_with_len 1 (size w - 1)) in
     let refused : lent_in c.as_slice-refusals.result.now ≡ refusals_of k.events = ap lent_in c.as_slice-refusals.ensures.value ∙ c.in_ok-all.ensures ∙ ap refusals_of c.events.ensures in

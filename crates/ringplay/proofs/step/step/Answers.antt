@@ -4,10 +4,12 @@ use Rattle.group_view.specs.Change.{AreOpeningNames}
 use Rattle.ring_rules.specs.Step.{opening}
 use Rattle.ring_rules.specs.Event.{IsRun}
 use Rattle.ring_journal.specs.Written.{IsWithin}
+use Rattle.ring_script.specs.Reading.{HaveNameablePositions}
 use Rattle.ring_cluster.specs.Seen.{state_of, opening_seen}
 use Rattle.ringplay.specs.Step.{enabled_of, refused_lines, HasStepped}
 use Rattle.ringplay.specs.Performed.{AreSteppedBy, Tells}
 use Rattle.ringplay.proofs.Playing.{has_run}
+use Rattle.ringplay.proofs.Positions.{stepped_journal}
 use Rattle.ringplay.proofs.Stepping.{stepped_of, stepped_all}
 use Rattle.ringplay.proofs.Keeping.{tells_so}
 use Rattle.ringplay.proofs.step.step.Goals as goal
@@ -27,10 +29,13 @@ with_journal-requires-clause-within c =
     let s = c.args.steps in
     let a = c.in_ok-cluster.cluster in
     let b = c.try_lines.new.cluster in
-    let of = stepped_of s.credit s.members a b (enabled_of (state_of a) c.as_slice.result.now)
-    (c.in_ok-cluster.ensures.opens ∙ ap (opening_seen s.credit) (c.deref.ensures.value ∙ c.into_vec-names.ensures)) c.in_ok-try_lines.ensures.stepped in
+    let opens : a ≡ opening_seen s.credit s.members =
+    c.in_ok-cluster.ensures.opens ∙ ap (opening_seen s.credit) (c.deref.ensures.value ∙ c.into_vec-names.ensures) in
+    let of = stepped_of s.credit s.members a b (enabled_of (state_of a) c.as_slice.result.now) opens c.in_ok-try_lines.ensures.stepped in
     let ran = has_run s.credit s.members c.in_ok-journal.journal.items b of.credit of.names c.in_ok-journal.ensures c.is_going.ensures in
-    subst (All IsWithin) (sym c.deref-3.ensures.value) (c.a_run_is_within.ensures.multicast s.credit s.members c.in_ok-journal.journal.items ran.are ran.run.run ran.multicast)
+    subst (All IsWithin) (sym c.deref-3.ensures.value) (c.a_run_is_within.ensures.positions s.credit s.members c.in_ok-journal.journal.items ran.are ran.run.run
+    (stepped_journal s.credit s.members a b c.as_slice.result.now c.in_ok-journal.journal.items opens c.in_ok-try_lines.ensures.stepped
+    (subst HaveNameablePositions (sym c.as_slice.ensures) c.requires.positions) c.in_ok-journal.ensures))
 
 pub with_journal-requires-clause-run : goal.with_journal-requires-clause-run
 with_journal-requires-clause-run c =

@@ -1,7 +1,7 @@
 use Rattle.std.proofs.Common.{subst}
 use Rattle.gm_member.specs.Shown.{held_of, OutIsBack}
 use Rattle.gm_member.specs.Questions.{OfView}
-use Rattle.gm_member.proofs.AnswerLifts.{asks_up, answer_lifts, mark_lifts, erase_lifts, admit_lifts, of_view, of_admitted}
+use Rattle.gm_member.proofs.AnswerLifts.{asks_up, answer_lifts, mark_lifts, erase_lifts, register_lifts, admit_lifts, of_view, of_admitted}
 use Rattle.gm_member.proofs.Ready.{is_ready}
 use Rattle.gm_member.proofs.member.Member.answer.Goals as goal
 
@@ -24,6 +24,11 @@ returns-in-Ok-clause-erases g c sound =
     of_view c.args.answer c.in-Viewed.view _ c.in-Viewed.is
     (erase_lifts (held_of c.args.self.now) (held_of c.read_answer.new.self) c.in-Viewed.view (c.in-Ok.ensures.reads sound).ok)
 
+pub returns-in-Ok-clause-registers : goal.returns-in-Ok-clause-registers
+returns-in-Ok-clause-registers g c sound =
+    of_view c.args.answer c.in-Viewed.view _ c.in-Viewed.is
+    (register_lifts (held_of c.args.self.now) (held_of c.read_answer.new.self) c.in-Viewed.view (c.in-Ok.ensures.reads sound).ok)
+
 pub returns-in-Ok-clause-admits : goal.returns-in-Ok-clause-admits
 returns-in-Ok-clause-admits g c sound =
     of_view c.args.answer c.in-Viewed.view _ c.in-Viewed.is
@@ -44,6 +49,11 @@ pub returns-in-Ok-read_answer-clause-erases : goal.returns-in-Ok-read_answer-cla
 returns-in-Ok-read_answer-clause-erases g c sound =
     of_admitted c.args.answer c.in-Admitted.view c.in-Admitted.id _ c.in-Admitted.is
     (erase_lifts (held_of c.args.self.now) (held_of c.read_answer-in-Admitted.new.self) c.in-Admitted.view (c.in-Ok-read_answer.ensures.reads sound).ok)
+
+pub returns-in-Ok-read_answer-clause-registers : goal.returns-in-Ok-read_answer-clause-registers
+returns-in-Ok-read_answer-clause-registers g c sound =
+    of_admitted c.args.answer c.in-Admitted.view c.in-Admitted.id _ c.in-Admitted.is
+    (register_lifts (held_of c.args.self.now) (held_of c.read_answer-in-Admitted.new.self) c.in-Admitted.view (c.in-Ok-read_answer.ensures.reads sound).ok)
 
 pub returns-in-Ok-read_answer-clause-admits : goal.returns-in-Ok-read_answer-clause-admits
 returns-in-Ok-read_answer-clause-admits g c sound =

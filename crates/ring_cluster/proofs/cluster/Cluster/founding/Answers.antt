@@ -1,6 +1,4 @@
-use Rattle.std.proofs.Common.{sym, ap, subst}
-use Rattle.std.specs.List.{list_all}
-use Rattle.ring_rules.specs.Event.{is_multicast}
+use Rattle.std.proofs.Common.{sym, subst}
 use Rattle.ring_parties.specs.States.{state}
 use Rattle.ring_parties.specs.Keeps.{KeepsStand}
 use Rattle.ring_parties.specs.Standing.{StandAfter}
@@ -14,5 +12,4 @@ invariant_of-result c =
           (subst (λ events. StandAfter c.args.credit c.args.members.now events q) (sym c.new.ensures.items) c.in_ok-parties.ensures.standing);
       keeps = subst (λ names. KeepsStand (state c.args.credit names c.new.result.items) (c.in_ok-parties.parties).keeps) (sym c.in_ok-names.ensures)
           (subst (λ events. KeepsStand (state c.args.credit c.args.members.now events) (c.in_ok-parties.parties).keeps) (sym c.new.ensures.items) c.in_ok-parties.ensures.keeps);
-      multicast = ap (list_all is_multicast) c.new.ensures.items;
     }

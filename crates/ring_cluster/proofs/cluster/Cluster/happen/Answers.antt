@@ -6,14 +6,13 @@ use Rattle.ring_cluster.specs.Kept.{seen_of}
 use Rattle.ring_parties.specs.Parties.{PartiesSeen}
 use Rattle.ring_cluster.specs.Seen.{state_of, collected_by, collecting, with_event}
 use Rattle.ring_parties.specs.States.{state, IsEventIn}
-use Rattle.ring_cluster.proofs.rounds.Named.{played_in}
 use Rattle.ring_cluster.proofs.deposits.Owed.{on_err_both}
 use Rattle.ring_cluster.proofs.cluster.Cluster.happen.Goals as goal
 
 pub step-requires-clause-at : goal.step-requires-clause-at
 step-requires-clause-at c =
     subst (λ ns. IsEventIn (state c.self.inside.credit ns c.self.inside.journal.items) c.args.place c.args.event.now) (sym c.deref.ensures.value)
-    (subst (λ x. IsEventIn (state_of x) c.args.place c.args.event.now) (sym c.self.view_is) (played_in (state_of c.args.self.now) c.args.place c.args.event.now c.requires))
+    (subst (λ x. IsEventIn (state_of x) c.args.place c.args.event.now) (sym c.self.view_is) c.requires)
 
 pub returns-clause-refused : goal.returns-clause-refused
 returns-clause-refused c = λ r e.

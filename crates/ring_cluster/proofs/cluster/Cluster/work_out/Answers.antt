@@ -1,22 +1,20 @@
 use Rattle.std.proofs.Common.{arith, false, refl, sym, ap, subst, ◌∙◌}
-use Rattle.ring_rules.specs.Idle.{NobodySteps, MarksNobody, ErasesNobody}
 use Rattle.ring_cluster.specs.Plays.{AgendasAreEmpty}
 use Rattle.ring_cluster.specs.Seen.{state_of}
+use Rattle.ring_cluster.specs.Turns.{AllRest}
 use Rattle.ring_cluster.proofs.deposits.Owed.{but_same, but_owing}
 use Rattle.ring_cluster.proofs.rounds.Doing.{gone_from}
 use Rattle.ring_cluster.proofs.rounds.Playing.{HasGoneOn-trans}
 use Rattle.ring_cluster.proofs.rounds.Turning.{works_same}
 use Rattle.ring_cluster.proofs.rounds.Numbers.{gives_within, gives_more, on_err}
-use Rattle.ring_cluster.proofs.rounds.Settling.{worked_rests}
+use Rattle.ring_cluster.proofs.rounds.Resting.{idle_rest, quiet_rest}
 use Rattle.ring_cluster.proofs.cluster.Cluster.work_out.Goals as goal
 
+pub returns-clause-idle : goal.returns-clause-idle
+returns-clause-idle g c = idle_rest c.deliver.new.self c.is_going.ensures (subst (λ x. AllRest (state_of x)) (sym c.in_ok-deliver.ensures.ok) c.in_ok-drain.ensures.rests)
+
 pub returns-clause-quiet : goal.returns-clause-quiet
-returns-clause-quiet g c =
-    let same = sym c.in_ok-deliver.ensures.ok in
-    worked_rests c.deliver.new.self c.is_going.ensures
-    (subst (λ x. NobodySteps (state_of x)) same c.in_ok-drain.ensures.idle)
-    (subst (λ x. MarksNobody (state_of x)) same c.in_ok-drain.ensures.marks)
-    (subst (λ x. ErasesNobody (state_of x)) same c.in_ok-drain.ensures.erases)
+returns-clause-quiet g c = quiet_rest c.deliver.new.self c.is_going.ensures (subst (λ x. AllRest (state_of x)) (sym c.in_ok-deliver.ensures.ok) c.in_ok-drain.ensures.rests)
 
 pub returns-clause-rounds : goal.returns-clause-rounds
 returns-clause-rounds g c = gives_more 1 64 c.args.self.now c.work_rounds.new.self c.number_round.new.self c.deliver.new.self c.work_rounds.ensures.rounds c.number_round.ensures (ap (λ x. x.rounds) c.in_ok-deliver.ensures.ok ∙ c.drain.ensures.round.given.1)
@@ -48,12 +46,3 @@ returns-clause-goes g c = HasGoneOn-trans c.args.self.now c.work_rounds.new.self
 
 pub returns-clause-empty : goal.returns-clause-empty
 returns-clause-empty g c = subst AgendasAreEmpty (sym c.in_ok-deliver.ensures.ok) c.in_ok-drain.ensures.empty
-
-pub returns-clause-idle : goal.returns-clause-idle
-returns-clause-idle g c = subst (λ x. NobodySteps (state_of x)) (sym c.in_ok-deliver.ensures.ok) c.in_ok-drain.ensures.idle
-
-pub returns-clause-marks : goal.returns-clause-marks
-returns-clause-marks g c = subst (λ x. MarksNobody (state_of x)) (sym c.in_ok-deliver.ensures.ok) c.in_ok-drain.ensures.marks
-
-pub returns-clause-erases : goal.returns-clause-erases
-returns-clause-erases g c = subst (λ x. ErasesNobody (state_of x)) (sym c.in_ok-deliver.ensures.ok) c.in_ok-drain.ensures.erases

@@ -6,7 +6,7 @@ use Rattle.ring_parties.specs.Acting.{DoesAlone}
 use Rattle.ring_rules.proofs.code.Errors.{OnErr_of}
 use Rattle.ring_parties.proofs.standing.Nodes.{at_read, written_shown}
 use Rattle.ring_parties.proofs.events.Acted.{alone_acts, alone_kept}
-use Rattle.ring_parties.proofs.deposits.Delivered.{inside, as_before, keeps_is, shown_is, then_kept, none_behind, bare, asks_nothing, is_ready}
+use Rattle.ring_parties.proofs.deposits.Delivered.{inside, as_before, keeps_is, shown_is, then_kept, none_behind, bare, asks_nothing, is_ready, is_booked}
 use Rattle.ring_parties.proofs.parties.Parties.act_alone.Goals as goal
 
 pub do_alone-requires-clause-free : goal.do_alone-requires-clause-free
@@ -14,6 +14,9 @@ do_alone-requires-clause-free c = asks_nothing c.self.inside c.args.self.now c.s
 
 pub do_alone-requires-clause-ready : goal.do_alone-requires-clause-ready
 do_alone-requires-clause-ready c = is_ready c.self.inside c.args.self.now c.self.view_is c.requires.may.standing c.args.i c.requires.may.within c.index_mut.result.now c.index_mut.ensures.value
+
+pub do_alone-requires-clause-booked : goal.do_alone-requires-clause-booked
+do_alone-requires-clause-booked c = is_booked c.self.inside c.args.self.now c.self.view_is c.args.i c.requires.may.within c.requires.may.booked c.index_mut.result.now c.index_mut.ensures.value
 
 pub returns-in_err-do_alone-clause-err : goal.returns-in_err-do_alone-clause-err
 returns-in_err-do_alone-clause-err c = OnErr_of c.from_residual.result (as_before c.self.inside c.args.self.now c.self.view_is c.args.i c.requires.may.within c.index_mut.result.now c.do_alone.new.party c.index_mut.ensures.value c.in_err-do_alone.ensures.err c.in_err-do_alone.ensures.err_keeps)

@@ -16,3 +16,8 @@ pub returns-in-Erase-clause-ok : goal.returns-in-Erase-clause-ok
 returns-in-Erase-clause-ok c =
     let q = (c.args.self.now).all in
     subst (λ k. IfOk c.act_erase.result (λ replaced. Acts (Changes k) (keeps_at (c.args.self.now).keeps c.args.i) c.args.i (marked_in (Changes k) q) q (c.act_erase.new.self).all (replaced_seen replaced))) (sym c.in-Erase.is) c.act_erase.ensures.ok
+
+pub returns-in-Register-clause-ok : goal.returns-in-Register-clause-ok
+returns-in-Register-clause-ok c =
+    let q = (c.args.self.now).all in
+    subst (λ k. IfOk c.act_register.result (λ replaced. Acts (Changes k) (keeps_at (c.args.self.now).keeps c.args.i) c.args.i (marked_in (Changes k) q) q (c.act_register.new.self).all (replaced_seen replaced))) (sym c.in-Register.is) c.act_register.ensures.ok

@@ -19,7 +19,7 @@ pub unknown-requires : goal.unknown-requires
 unknown-requires c = asks_nothing c.self.inside c.args.self.now c.self.view_is c.requires.standing c.args.i c.requires.within c.index.result.now c.index.ensures
 
 pub returns-in_default : goal.returns-in_default
-returns-in_default c = λ by. told_as c.args.i (Mark by c.args.dead.now) (c.args.self.now).all _ (λ credit names events s lt _.
+returns-in_default c = λ by. told_as c.args.i (Mark by c.args.dead.now) (c.args.self.now).all _ (λ credit names events s lt.
     let shown = shown_is c.self.inside c.args.self.now c.self.view_is c.args.i c.requires.within c.index.result.now c.index.ensures in
     sym c.unknown.ensures
     ∙ ap (λ (m : Shown). up_refused m.held (Some reason.UnknownMember)) shown
@@ -29,7 +29,7 @@ pub up_refusal-requires : goal.up_refusal-requires
 up_refusal-requires c = asks_nothing c.self.inside c.args.self.now c.self.view_is c.requires.standing c.args.i c.requires.within c.index.result.now c.index.ensures
 
 pub returns-in-Some-up_refusal : goal.returns-in-Some-up_refusal
-returns-in-Some-up_refusal c = λ by. told_as c.args.i (Mark by c.args.dead.now) (c.args.self.now).all _ (λ credit names events s lt _.
+returns-in-Some-up_refusal c = λ by. told_as c.args.i (Mark by c.args.dead.now) (c.args.self.now).all _ (λ credit names events s lt.
     let q = (c.args.self.now).all in
     let named : id_named q c.args.dead.now ≡ Some c.in-Some.id.0 = c.id_named.ensures.id ∙ ap (option_map number) c.in-Some.is in
     let shown = shown_is c.self.inside c.args.self.now c.self.view_is c.args.i c.requires.within c.index.result.now c.index.ensures in
@@ -39,7 +39,7 @@ returns-in-Some-up_refusal c = λ by. told_as c.args.i (Mark by c.args.dead.now)
     ∙ mark_reads credit names events q s c.args.i lt c.self.inside.members.items c.self.inside.registrar (behind c.self.inside.pending_deposit) (sym (ap (λ (x : PartiesSeen). x.all) c.self.view_is)) c.args.dead.now c.in-Some.id.0 named)
 
 pub returns : goal.returns
-returns c = λ by. told_as c.args.i (Mark by c.args.dead.now) (c.args.self.now).all _ (λ credit names events s lt _.
+returns c = λ by. told_as c.args.i (Mark by c.args.dead.now) (c.args.self.now).all _ (λ credit names events s lt.
     let q = (c.args.self.now).all in
     let named : id_named q c.args.dead.now ≡ Some c.in-Some.id.0 = c.id_named.ensures.id ∙ ap (option_map number) c.in-Some.is in
     let shown = shown_is c.self.inside c.args.self.now c.self.view_is c.args.i c.requires.within c.index.result.now c.index.ensures in

@@ -1,5 +1,8 @@
 use Rattle.std.proofs.Common.{arith, sym, subst}
+use Rattle.ring_parties.specs.States.{state}
+use Rattle.ring_parties.specs.Keeps.{KeepsStand}
 use Rattle.ring_parties.specs.Standing.{StandAfter}
+use Rattle.ring_parties.proofs.events.After.{booked_after}
 use Rattle.ring_parties.proofs.events.Closing.{found_at}
 use Rattle.ring_parties.proofs.parties.Parties.step_enabled.Goals as goal
 
@@ -10,6 +13,9 @@ collect-requires c =
       within = omega (arith, c.requires.at.0, stand.stand.stand.count);
       delivered = c.in_ok-hand_over.ensures.ok;
       standing = (c.args.credit, c.args.names.now, c.args.journal.now.items, stand);
+      booked = booked_after c.args.credit c.args.names.now c.args.journal.now.items (c.hand_over.new.self).all (c.hand_over.new.self).keeps c.args.i stand
+          (subst (KeepsStand (state c.args.credit c.args.names.now c.args.journal.now.items)) (sym c.hand_over.ensures.keeps) c.requires.keeps)
+          (omega (arith, c.requires.at.0, stand.stand.stand.count));
     }
 
 pub happen-requires-clause-within : goal.happen-requires-clause-within
