@@ -1,5 +1,5 @@
 //! The items of a mirror.
-ghost use Rattle.std.specs.Prelude.{◌≡◌, ◌++◌, OnOk};
+ghost use Rattle.std.specs.Prelude.{◌≡◌, ◌++◌, map, IfOk, OnOk};
 ghost use Rattle.std.specs.List.{flat_map};
 ghost use Rattle.queue_core.specs.Shown.{item_of};
 ghost use Rattle.ring_report.specs.Report.{item_line, item_lines, told_line, while_up};
@@ -31,28 +31,40 @@ pub fn push_items(
 fn push_queue(alloc: Global, out: &mut Vec<u8>, queue: &Queue) -> Result<(), OutOfMemory>
     ensures { OnOk result (out.new.items ≡ out.old.items ++ item_lines (queue.now).queue.items) }
 {
-    push_told(alloc, out, queue, false)?;
-    push_told(alloc, out, queue, true)?;
+    let all = held_in(alloc, queue)?;
+    push_told(alloc, out, &all, false)?;
+    push_told(alloc, out, &all, true)?;
     Ok(())
 }
 
-/// Those that are handed out, or the others.
-fn push_told(
-    alloc: Global,
-    out: &mut Vec<u8>,
-    queue: &Queue,
-    handed: bool,
-) -> Result<(), OutOfMemory>
-    ensures { OnOk result (out.new.items ≡ out.old.items ++ flat_map (told_line handed) (queue.now).queue.items) }
+/// The items of a queue, by their positions.
+pub fn held_in<'a>(alloc: Global, queue: &'a Queue) -> Result<Vec<Held<'a>>, OutOfMemory>
+    ensures { IfOk result (λ all. map item_of all.items ≡ (queue.now).queue.items) }
 {
     let _next = queue.next();
+    let mut all = Vec::new(alloc);
     let mut from = 0;
     for _place in 0..queue.depth() {
         let Some(held) = queue.item_from(Position(from)) else {
             unreachable!()
         };
         from = held.at.0 + 1;
-        push_item(alloc, out, &held, handed)?;
+        all.push(held)?;
+    }
+    Ok(all)
+}
+
+/// Those that are handed out, or the others.
+fn push_told(
+    alloc: Global,
+    out: &mut Vec<u8>,
+    all: &[Held<'_>],
+    handed: bool,
+) -> Result<(), OutOfMemory>
+    ensures { OnOk result (out.new.items ≡ out.old.items ++ flat_map (told_line handed) (map item_of all.now)) }
+{
+    for held in all {
+        push_item(alloc, out, held, handed)?;
     }
     Ok(())
 }

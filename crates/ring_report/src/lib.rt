@@ -7,12 +7,14 @@ mod items;
 mod members;
 mod refusals;
 mod reporting;
+mod summing;
 #[cfg(test)]
 mod tests;
 mod view;
 
-pub use items::push_items;
+pub use items::{held_in, push_items};
 pub use members::{push_cast, push_counts, push_state};
 pub use refusals::{push_refusals, refusals_in};
 pub use reporting::report;
+pub use summing::{push_summary, summary};
 pub use view::push_ring;

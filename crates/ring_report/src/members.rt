@@ -87,23 +87,30 @@ fn stopped_text(mark: Mark) -> &'static [u8]
 pub fn push_counts(alloc: Global, out: &mut Vec<u8>, counts: &Counts) -> Result<(), OutOfMemory>
     ensures { OnOk result (out.new.items ≡ out.old.items ++ counts_lines counts.now) }
 {
-    push_count(alloc, out, "casts", counts.casts, counts.casts_confirmed)?;
+    push_count(
+        alloc,
+        out,
+        "casts",
+        counts.casts as u128,
+        counts.casts_confirmed as u128,
+    )?;
     push_count(
         alloc,
         out,
         "publishes",
-        counts.publishes,
-        counts.publishes_confirmed,
+        counts.publishes as u128,
+        counts.publishes_confirmed as u128,
     )?;
     Ok(())
 }
 
-fn push_count(
+/// How many messages of a kind were published, and how many of them are confirmed.
+pub(crate) fn push_count(
     alloc: Global,
     out: &mut Vec<u8>,
     kind: &str,
-    published: u64,
-    confirmed: u64,
+    published: u128,
+    confirmed: u128,
 ) -> Result<(), OutOfMemory>
     ensures { OnOk result (out.new.items ≡ out.old.items
         ++ (kind.now ++ codes " " ++ decimal published ++ codes " confirmed " ++ decimal confirmed ++ newline)) }

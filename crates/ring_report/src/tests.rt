@@ -1,5 +1,5 @@
 //! A ring whose master serves its queue, while one stops and two join, as it is told.
-use crate::report;
+use crate::{report, summary};
 use ring_names::{Body, CreditSpec, Name, Position};
 use ring_rules::{Client, Event};
 use ring_world::{World, are_opening_names};
@@ -44,6 +44,15 @@ publishes 0 confirmed 0
 member o waiting
 casts 0 confirmed 0
 publishes 0 confirmed 0
+";
+
+/// The summary of it, behind a script of seven blocks.
+const SUMMARY: &str = "blocks 7
+members 4 up 2
+casts 2 confirmed 0
+publishes 3 confirmed 0
+master a term 1 view 3
+ready 2 unacked 1
 ";
 
 fn name(text: &str) -> Result<Name, Fail> {
@@ -105,5 +114,7 @@ fn tells_a_served_queue(rt: HostRuntime) -> Result<(), Fail> {
     }
     let text = report(alloc, &world)?;
     assert_eq!(rt; text.as_slice(), REPORT.as_bytes());
+    let text = summary(alloc, &world, 7)?;
+    assert_eq!(rt; text.as_slice(), SUMMARY.as_bytes());
     Ok(())
 }

@@ -56,7 +56,8 @@ pub(crate) fn mark_in(entries: &[Entry], id: MemberId) -> Mark
     }
 }
 
-fn master_of(view: &View) -> &[u8]
+/// The name of the master, or `none`.
+pub(crate) fn master_of(view: &View) -> &[u8]
     ensures { result.now ≡ master_name (view.now).entries (view.now).master }
 {
     match view.master {

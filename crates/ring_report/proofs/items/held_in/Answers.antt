@@ -1,9 +1,9 @@
-use Rattle.std.proofs.Common.{◌≡◌, ◌+◌, ◌<◌, ◌++◌, Option, Some, None, option_map, length, get_or, sym, ap, subst, ◌∙◌, arith}
+use Rattle.std.proofs.Common.{◌≡◌, ◌+◌, ◌<◌, ◌++◌, [], ◌∷◌, Option, Some, None, option_map, map, length, get_or, sym, ap, subst, ◌∙◌, arith}
+use Rattle.std.proofs.lemmas.List.{map-append, take_more}
 use Rattle.queue_core.specs.Queue.{Item}
 use Rattle.queue_core.specs.Shown.{item_of}
-use Rattle.ring_report.specs.Report.{told_line}
-use Rattle.ring_report.proofs.Passing.{no_item, Passes, passes_first, passes_on, below, items_more}
-use Rattle.ring_report.proofs.items.push_told.Goals as goal
+use Rattle.ring_report.proofs.Passing.{no_item, Passes, passes_first, passes_on, below}
+use Rattle.ring_report.proofs.items.held_in.Goals as goal
 
 pub unreachable-requires : goal.unreachable-requires
 unreachable-requires c =
@@ -28,14 +28,14 @@ pub loop-place-preserved : goal.loop-place-preserved
 loop-place-preserved c =
     let items = c.args.queue.now.queue.items in
     let k = c.loop-place._place in
-    let out = c.args.out.now.items in
-    let told = told_line c.args.handed in
     let within : k < length items = omega (arith, c.loop-place-test.true, c.depth-place-end.ensures.value) in
     let both : Some (item_of c.in-Some.held) ≡ Some (get_or items k no_item) =
     sym (ap (option_map item_of) c.in-Some.is) ∙ c.item_from.ensures ∙ passes_first items k c.loop-place.from c.loop-place.invariant.passes within in
     let here : item_of c.in-Some.held ≡ get_or items k no_item = cc in
     record {
-      told =
-          c.in_ok-push_item.ensures ∙ ap (λ i. c.loop-place.out.items ++ told i) here ∙ ap (λ t. t ++ told (get_or items k no_item)) c.loop-place.invariant.told ∙ items_more told out items k within;
+      held =
+          ap (map item_of) c.in_ok-push.ensures.items ∙ map-append item_of c.loop-place.all.items (c.in-Some.held ∷ [])
+          ∙ ap (λ i. map item_of c.loop-place.all.items ++ i ∷ []) here ∙ ap (λ is. is ++ get_or items k no_item ∷ []) c.loop-place.invariant.held
+          ∙ sym (take_more items k no_item within);
       passes = subst (λ a. Passes items (k + 1) (a + 1)) (sym (ap (λ (i : Item). i.at) here)) (passes_on items k c.loop-place.from c.depth-place-end.ensures.order c.loop-place.invariant.passes within);
     }
