@@ -16,7 +16,7 @@ joined : {A : Type 0} (t ts a b c p ps : List A) → t ++ b ≡ a ++ p → ts ++
 joined t ts a b c p ps h k = append_assoc t ts c ∙ ap (λ xs. t ++ xs) k ∙ sym (append_assoc t b ps) ∙ ap (λ xs. xs ++ ps) h ∙ append_assoc a p ps
 
 -- a grant that is sent stays one of those on the way back
-sent_list : (back given given' : List ℕ) (late late' : Option ℕ) → Sends given late given' late' → back ++ (given' ++ list_of late') ≡ back ++ (given ++ list_of late)
+pub sent_list : (back given given' : List ℕ) (late late' : Option ℕ) → Sends given late given' late' → back ++ (given' ++ list_of late') ≡ back ++ (given ++ list_of late)
 sent_list back given given' late late' (inl h) = cc
 sent_list back given given' late late' (inr (none, grant, is, more)) = rw none (rw is (rw more (ap (λ xs. back ++ xs) (append-nil _))))
 

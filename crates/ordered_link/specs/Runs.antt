@@ -22,6 +22,11 @@ abbrev pub list_of : Option ℕ → List ℕ
 list_of None = []
 list_of (Some grant) = grant ∷ []
 
+-- the steps lead, one after another, from these two ends to those
+abbrev pub Lead : {T O I : Type 0} → (Step T → O → I → O → I → Type 0) → List (Step T) → O → I → O → I → Type 0
+Lead does [] o i o' i' = (o' ≡ o) × (i' ≡ i)
+Lead {O = O} {I = I} does (s ∷ rest) o i o' i' = (p : O) × (q : I) × does s o i p q × Lead does rest p q o' i'
+
 module _ {T : Type 0} where
   -- the step leads from these two ends to those
   abbrev pub Does : Step T → PlainOut T → PlainIn T → PlainOut T → PlainIn T → Type 0
@@ -32,10 +37,9 @@ module _ {T : Type 0} where
   Does looked o i o' i' = (o' ≡ o) × PlainLooked i i'
   Does met o i o' i' = PlainMeets o i o' i'
 
-  -- the steps lead, one after another, from these two ends to those
+  -- so do the steps, one after another
   abbrev pub AreSteps : List (Step T) → PlainOut T → PlainIn T → PlainOut T → PlainIn T → Type 0
-  AreSteps [] o i o' i' = (o' ≡ o) × (i' ≡ i)
-  AreSteps (s ∷ rest) o i o' i' = (p : PlainOut T) × (q : PlainIn T) × Does s o i p q × AreSteps rest p q o' i'
+  AreSteps steps o i o' i' = Lead Does steps o i o' i'
 
   -- what one step put
   abbrev pub put_by : Step T → List (Item T)

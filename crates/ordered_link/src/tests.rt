@@ -43,6 +43,9 @@ fn take<I: LinkIn<u32>>(link: &mut I) -> Option<u32> {
     }
 }
 
+// Both ends may go to threads of their own.
+fn may_go<O: Send, I: Send>(_out: &O, _link: &I) {}
+
 #[test]
 fn carries_a_load_and_then_end(rt: HostRuntime) -> Result<(), Fail> {
     let (mut out, mut link) = plain_pair::<u32>(rt.alloc(), ONE)?;
@@ -89,5 +92,37 @@ fn gives_a_grant_back_once(rt: HostRuntime) -> Result<(), Fail> {
     let taken = link.take().is_some();
     let told = [first, second, early, came, taken, link.waits()];
     assert!(rt; granted == [Some(3), None] && told == [false, true, false, true, false, false]);
+    Ok(())
+}
+
+#[test]
+fn rings_carry_a_load_and_then_end(rt: HostRuntime) -> Result<(), Fail> {
+    let (mut out, mut link) = ring_pair::<u32>(rt.alloc(), ONE)?;
+    let put = [out.put(7).err(), out.put(8).err()];
+    out.end(EndReason::Moved);
+    let early = link.peek().is_some();
+    ring_meet(&mut out, &mut link);
+    let shown = matches!(link.peek(), Some(Item::Load(7)));
+    let taken = [take(&mut link), take(&mut link), take(&mut link)];
+    assert!(rt; put == [None, Some(8)] && !early && shown && taken == [Some(7), Some(101), None]);
+    Ok(())
+}
+
+#[test]
+fn rings_give_grants_back_and_tell_who_looks(rt: HostRuntime) -> Result<(), Fail> {
+    let (mut out, mut link) = ring_pair::<u32>(rt.alloc(), ONE)?;
+    link.grant(3);
+    link.grant(4);
+    let early = [out.has_grant(), link.take().is_some()];
+    out.look();
+    let first = out.granted();
+    let late = link.waits();
+    ring_meet(&mut out, &mut link);
+    let granted = [first, out.granted(), out.granted()];
+    let put = out.put(7).is_ok();
+    may_go(&out, &link);
+    link.look();
+    assert!(rt; early == [false; 2] && late && granted == [Some(3), Some(4), None]);
+    assert!(rt; put && take(&mut link) == Some(7));
     Ok(())
 }
