@@ -58,7 +58,7 @@ impl Cluster {
     ghost use Rattle.ring_names.specs.declared.reason.Reason.{Reason};
     ghost use Rattle.ring_script.specs.declared.command.Command.{Command};
     ghost use Rattle.ring_script.specs.declared.command.Command.TheVariants as command;
-    ghost use Rattle.group_view.specs.Change.{AreOpeningNames};
+    ghost use Rattle.group_view.specs.Change.{AreOpeningNames, most_entries};
     ghost use Rattle.ring_rules.specs.declared.event.Event.{Event};
     ghost use Rattle.ring_rules.specs.declared.event.Event.TheVariants as event;
     ghost use Rattle.ring_rules.specs.Machine.{member_at, row_at, view_in, newest, runs};
@@ -631,6 +631,15 @@ impl Cluster {
         ensures { self.new ≡ record self.old { rounds = more_rounds 1 (self.old).rounds } }
     {
         self.rounds.number_one();
+    }
+
+    /// How many members the ring has ever had, those that joined among them: their ids go from 1 to this number.
+    pub fn members(&self) -> u32
+        ensures value { result + 1 ≡ size (state_of self.now) }
+        ensures few { result ≤ most_entries }
+    {
+        self.is_going();
+        self.parties.count() as u32
     }
 
     /// The member of that id: it stands in the last state of the journal, but that of the links that wait for it only

@@ -1,11 +1,10 @@
 //! What journals promise, whatever their bytes.
-ghost use Rattle.std.specs.Prelude.{◌≡◌, ℕ, List, All, true};
-ghost use Rattle.std.specs.List.{list_all};
+ghost use Rattle.std.specs.Prelude.{◌≡◌, ℕ, List, All};
 ghost use Rattle.ring_names.specs.declared.numbers.CreditSpec.{CreditSpec};
 ghost use Rattle.group_view.specs.Change.{AreOpeningNames};
 ghost use Rattle.ring_rules.specs.declared.event.Event.{Event};
 ghost use Rattle.ring_rules.specs.Step.{opening};
-ghost use Rattle.ring_rules.specs.Event.{IsRun, is_multicast};
+ghost use Rattle.ring_rules.specs.Event.{IsRun};
 ghost use Rattle.ring_world.specs.Reached.{WorldSeen};
 ghost use Rattle.ring_journal.specs.declared.verdict.Verdict.{Verdict};
 ghost use Rattle.ring_journal.specs.declared.verdict.Verdict.TheVariants.{Legal};
@@ -43,14 +42,11 @@ pub fn each_text_has_one_verdict()
 {}
 
 /// The numbers of a run are within a journal's limits where its positions are: versions and numbers of refusals always
-/// are. So those of a run of the ring alone are, since nothing in it names a position of the queue.
+/// are.
 pub fn a_run_is_within()
-    ensures positions { (credit : CreditSpec) (names : List (List ℕ)) (events : List Event)
+    ensures { (credit : CreditSpec) (names : List (List ℕ)) (events : List Event)
         → AreOpeningNames names → IsRun (opening credit names) events
         → All HasNameablePositions events → All IsWithin events }
-    ensures multicast { (credit : CreditSpec) (names : List (List ℕ)) (events : List Event)
-        → AreOpeningNames names → IsRun (opening credit names) events
-        → list_all is_multicast events ≡ true → All IsWithin events }
 {
     every_number_is_bounded();
 }

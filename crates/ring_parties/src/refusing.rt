@@ -435,7 +435,7 @@ impl Parties {
     }
 
     /// Why it may not have itself registered as synchronised: by the newest view, and by what its mirror lacks.
-    pub fn register_refusal(&self, i: usize) -> Option<Reason>
+    fn register_refusal(&self, i: usize) -> Option<Reason>
         requires within { i < length (self.now).all.nodes }
         requires standing { StandSomewhere (self.now).all }
         ensures { (by : List ℕ) → IsRefusalBy i (Synced by) self.now result }

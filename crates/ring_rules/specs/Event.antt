@@ -303,13 +303,6 @@ by_of (Erase by origin) = by
 by_of (Synced by) = by
 by_of (Refuse code inner) = asked_of inner
 
--- whether what a client asks for is of the ring alone
-abbrev pub is_asked_multicast : Client → Bool
-is_asked_multicast (client.Cast by body) = true
-is_asked_multicast (client.Stop by) = true
-is_asked_multicast (client.Admit by name) = true
-is_asked_multicast c = false
-
 -- whether a client asks for what a master says of its queue; else the master does it by itself
 abbrev pub is_asked_of_master : QueueSaying → Bool
 is_asked_of_master (Does asking.Depth) = false
@@ -328,17 +321,6 @@ is_asked_kind k = false
 -- for an event
 abbrev pub is_asked : Event → Bool
 is_asked e = is_asked_kind (kind_of e)
-
--- whether a kind is of the ring alone, and not of the queue that stands on it
-abbrev pub is_multicast_kind : Kind → Bool
-is_multicast_kind (Says (OfQueue q)) = false
-is_multicast_kind (Changes change.Register) = false
-is_multicast_kind (Tells code inner) = is_asked_multicast inner
-is_multicast_kind k = true
-
--- whether an event is
-abbrev pub is_multicast : Event → Bool
-is_multicast e = is_multicast_kind (kind_of e)
 
 -- whether the registrar has a part in it: it hears of a stop, and makes the view of a change
 abbrev pub is_registered_kind : Kind → Bool

@@ -12,3 +12,6 @@ pub mod Playable
 pub mod Positions
 pub mod Names
 pub mod Exact
+pub mod LoadLines
+pub mod LoadParts
+pub mod LoadPlayable

@@ -9,11 +9,12 @@ use Rattle.ring_script.specs.Line.{Grammar, is_skipped}
 use Rattle.ring_script.specs.Reading.{used_of, fault_at, AreRight}
 use Rattle.ring_script.specs.Standing.{used_line}
 
-enumerate_more : (from : ℕ) (lines : List (List ℕ)) (line : List ℕ) → enumerate_from from (lines ++ line ∷ []) ≡ enumerate_from from lines ++ (from + length lines, line) ∷ []
-enumerate_more from [] line = let e : from ≡ from + 0 = omega arith in ap (λ n. (n, line) ∷ []) e
-enumerate_more from (first ∷ lines) line =
-    let e : from + 1 + length lines ≡ from + suc (length lines) = omega arith in
-    ap (λ xs. (from, first) ∷ xs) (enumerate_more (from + 1) lines line ∙ ap (λ n. enumerate_from (from + 1) lines ++ (n, line) ∷ []) e)
+-- numbers go on behind a list
+pub enumerate_from-append : {X : Type 0} (from : ℕ) (xs ys : List X) → enumerate_from from (xs ++ ys) ≡ enumerate_from from xs ++ enumerate_from (from + length xs) ys
+enumerate_from-append from [] ys = let e : from ≡ from + 0 = omega arith in ap (λ n. enumerate_from n ys) e
+enumerate_from-append from (x ∷ xs) ys =
+    let e : from + 1 + length xs ≡ from + suc (length xs) = omega arith in
+    ap (λ zs. (from, x) ∷ zs) (enumerate_from-append (from + 1) xs ys ∙ ap (λ n. enumerate_from (from + 1) xs ++ enumerate_from n ys) e)
 
 used_by : (number : ℕ) (line : List ℕ) (b : Bool) → is_skipped line ≡ b → filter (λ l. not (is_skipped l.1)) ((number, line) ∷ []) ≡ used_line number line
 used_by number line true e = rw e
@@ -23,7 +24,7 @@ used_by number line false e = rw e
 pub used_more : (lines : List (List ℕ)) (line : List ℕ) → used_of (lines ++ line ∷ []) ≡ used_of lines ++ used_line (length lines + 1) line
 used_more lines line =
     let number : 1 + length lines ≡ length lines + 1 = omega arith in
-    ap (filter (λ l. not (is_skipped l.1))) (enumerate_more 1 lines line)
+    ap (filter (λ l. not (is_skipped l.1))) (enumerate_from-append 1 lines (line ∷ []))
     ∙ filter-append (λ l. not (is_skipped l.1)) (enumerate_from 1 lines) ((1 + length lines, line) ∷ [])
     ∙ ap (λ xs. used_of lines ++ xs) (used_by (1 + length lines) line _ refl ∙ ap (λ n. used_line n line) number)
 

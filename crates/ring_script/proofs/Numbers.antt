@@ -15,7 +15,7 @@ use Rattle.ring_script.specs.Words.{has_byte, is_digit, is_number, number_of}
 use Rattle.ring_script.specs.Line.{number_fault}
 
 -- what passes the test of digits is a numeral, and its value is that of its digits
-numerals : IsNumeralModel (λ word. list_all is_digit word ≡ true) (digits_value 10)
+pub numerals : IsNumeralModel (λ word. list_all is_digit word ≡ true) (digits_value 10)
 numerals = numerals_by_value (λ word. list_all is_digit word ≡ true) (search rules)
 
 -- a word that writes a number has digits alone

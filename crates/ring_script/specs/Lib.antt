@@ -8,3 +8,4 @@ pub mod Script
 pub mod Steps
 pub mod Reading
 pub mod Standing
+pub mod Load

@@ -878,3 +878,36 @@ fn reads_words_and_numbers(rt: HostRuntime) -> Result<(), Fail> {
     expect(&rt, Ask::Number(1000), NUMBERS_TO_1000)?;
     expect(&rt, Ask::Number(0), "none 1")
 }
+
+/// The load of two blocks and the seed 0.
+const LOAD: &str = "\
+members m0 m1 m2
+cast m2 c1
+publish m0 p1a
+publish m0 p1b
+get m0
+ack m0 1
+get m0
+settle
+kill m0
+settle
+cast m1 c2
+publish m1 p2a
+publish m1 p2b
+get m1
+ack m1 2
+";
+
+/// All that a script has, line by line.
+fn told_of(alloc: Global, script: &Script) -> Result<String, Fail> {
+    Ok(format!(in alloc; "{script:?}")?)
+}
+
+#[test]
+fn makes_the_load(rt: HostRuntime) -> Result<(), Fail> {
+    let load = load_script(rt.alloc(), 2, 0)?;
+    let read = read_script(rt.alloc(), LOAD.as_bytes())?;
+    let told = told_of(rt.alloc(), &load)?;
+    assert_eq!(rt; told, told_of(rt.alloc(), &read)?);
+    Ok(())
+}

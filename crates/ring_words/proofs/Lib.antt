@@ -1,3 +1,5 @@
+pub mod Loaded
+pub mod Numbers
 pub mod Rows
 pub mod Taken
 pub mod Told

@@ -1,11 +1,11 @@
 //! The command, as `clap` takes it.
-ghost use Rattle.std.specs.Prelude.{◌≡◌, [], map, false, IfOk, IfErr};
-ghost use Rattle.clap.specs.Words.{app_of, fault_of, kind_of, subcommand_of, subcommand_rows_of};
+ghost use Rattle.std.specs.Prelude.{◌≡◌, [], map, false, codes, IfOk, IfErr};
+ghost use Rattle.clap.specs.Words.{app_of, fault_of, kind_of, rule_of, subcommand_of, subcommand_rows_of};
 ghost use Rattle.clap.specs.declared.builder.Command.TheViews.{out-Command as fields_of};
-ghost use Rattle.ring_words.specs.Words.{IsRefused, bare as bare_app, playing as playing_app, ringplay};
+ghost use Rattle.ring_words.specs.Words.{IsRefused, bare as bare_app, loading as loading_app, number_rule, playing as playing_app, ringplay};
 
 use clap::error::ErrorKind;
-use clap::{Arg, ArgAction, ArgMatches, Command, Error};
+use clap::{Arg, ArgAction, ArgMatches, Command, Error, value_parser};
 use std::alloc::{AllocError, Global};
 
 /// `play` or `step`, with its flag.
@@ -17,6 +17,38 @@ fn playing<'a>(alloc: Global, name: &'a str) -> Result<Command<'a>, AllocError>
         .long("journal")
         .action(ArgAction::SetTrue);
     Command::new(alloc, name).arg(journal)
+}
+
+/// How many blocks a load has.
+fn size<'a>(alloc: Global) -> Arg<'a>
+    ensures rule { rule_of result ≡ number_rule (codes "SIZE") 2 3900 }
+    ensures local { result.global ≡ false }
+{
+    Arg::new(alloc, "SIZE")
+        .required(true)
+        .action(ArgAction::Set)
+        .value_parser(value_parser!(u32).range(2..=3900))
+}
+
+/// The number by which a load chooses how many members there are, and who casts.
+fn seed<'a>(alloc: Global) -> Arg<'a>
+    ensures rule { rule_of result ≡ number_rule (codes "SEED") 0 1000000 }
+    ensures local { result.global ≡ false }
+{
+    Arg::new(alloc, "SEED")
+        .required(true)
+        .action(ArgAction::Set)
+        .value_parser(value_parser!(u32).range(0..=1000000))
+}
+
+/// `load`, with its two numbers.
+fn loading<'a>(alloc: Global) -> Result<Command<'a>, AllocError>
+    ensures app { IfOk result (λ command. app_of command ≡ loading_app) }
+    ensures local { IfOk result (λ command. (fields_of command).has_globals ≡ false) }
+{
+    let size = size(alloc);
+    let seed = seed(alloc);
+    Command::new(alloc, "load").arg(size)?.arg(seed)
 }
 
 /// The command without its subcommands.
@@ -38,10 +70,12 @@ fn command<'a>(alloc: Global) -> Result<Command<'a>, AllocError>
     let play = playing(alloc, "play")?;
     let step = playing(alloc, "step")?;
     let check = Command::new(alloc, "check");
+    let load = loading(alloc)?;
     let command = bare(alloc)
         .subcommand(play)?
         .subcommand(step)?
-        .subcommand(check)?;
+        .subcommand(check)?
+        .subcommand(load)?;
     Ok(command)
 }
 

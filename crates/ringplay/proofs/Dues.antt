@@ -1,9 +1,10 @@
 -- What is due, and what the answer says of it.
-use Rattle.std.proofs.Common.{◌≡◌, ◌⊎◌, ℕ, ◌<◌, ◌≤◌, ◌==◌, true, false, List, Option, Some, None, IfSome, length, codes, refl, sym, ap, subst, ◌∙◌, ⊎_elim, inl, inr, arith}
+use Rattle.std.proofs.Common.{◌≡◌, ◌⊎◌, ℕ, ◌<◌, ◌≤◌, ◌==◌, true, false, List, Option, Some, None, IfSome, IfOk, Result, Ok, Err, ◌↔◌, length, codes, refl, sym, ap, ap₂, subst, ◌∙◌, ⊎_elim, inl, inr, arith}
 use Rattle.std.specs.List.{slice_index}
 use Rattle.std.proofs.lemmas.Option.{same_Some}
 use Rattle.ring_names.specs.declared.reason.Reason.{Reason}
 use Rattle.ring_names.specs.Reason.{code_of}
+use Rattle.ring_names.specs.declared.memory.OutOfMemory.{OutOfMemory}
 use Rattle.ring_script.specs.Words.{lines_of}
 use Rattle.ring_script.specs.Script.{script_grammar}
 use Rattle.ring_script.specs.Steps.{step_grammar}
@@ -15,8 +16,8 @@ use Rattle.ring_journal.specs.Text.{IsVerdictOf}
 use Rattle.ring_journal.proofs.OneVerdict.{one_verdict}
 use Rattle.ring_cluster.specs.Seen.{Seen}
 use Rattle.ring_words.specs.declared.asked.Asked.{Asked}
-use Rattle.ring_words.specs.declared.asked.Asked.TheVariants.{Play, Step, Check}
-use Rattle.ring_words.specs.Words.{means}
+use Rattle.ring_words.specs.declared.asked.Asked.TheVariants.{Play, Step, Check, Load}
+use Rattle.ring_words.specs.Words.{IsRefused, means, named_by}
 use Rattle.ringplay.specs.declared.cause.Cause.{Cause}
 use Rattle.ringplay.specs.declared.cause.Cause.TheVariants as causes
 use Rattle.ringplay.specs.declared.call.Due.{Due}
@@ -24,8 +25,18 @@ use Rattle.ringplay.specs.declared.call.Ended.{Ended}
 use Rattle.ringplay.specs.Words.{Asks, AsksNothing}
 use Rattle.ringplay.specs.Cause.{line_of}
 use Rattle.ringplay.specs.Performed.{WasDone}
-use Rattle.ringplay.specs.Call.{IsDue, IsWhy, SaysOnly, IsAsked, IsInput, IsWithin, IsTooLarge, IsInGrammar, IsFaulty, IsRefusedFor, IsWritten, IsUnlessFailed, IsComplete, most_bytes, most_lines}
+use Rattle.ringplay.specs.Call.{IsDue, IsWhy, SaysOnly, IsAsked, IsInput, IsWithin, IsTooLarge, IsInGrammar, IsFaulty, IsRefusedFor, IsWritten, IsUnlessFailed, IsComplete, HasInput, AskToRead, AskToReadNothing, input_told, most_bytes, most_lines}
 use Rattle.ringplay.specs.Due.{IsLineDue, IsDueToInput}
+
+-- ---- the words
+
+-- what texts ask for, the words with these bytes ask for
+pub asks_so : (texts words : List (List ℕ)) (result : Result (Option Asked) OutOfMemory) → texts ≡ words → IfOk result (λ answer. (answer ≡ None) ↔ IsRefused texts)
+    → IfOk result (λ answer. IfSome answer (λ asked. named_by texts ≡ Some (means asked))) → IfOk result (λ answer. IfSome answer (Asks words))
+asks_so texts words (Err e) same usage named = tt
+asks_so texts words (Ok None) same usage named = tt
+asks_so texts words (Ok (Some asked)) same usage named =
+    subst (λ ws. Asks ws asked) same (record { taken = λ refused. (let none : Some asked ≡ None = usage.1 refused in cc); named = named })
 
 -- ---- an input
 
@@ -70,13 +81,13 @@ large_by : (asked : Asked) (told : Option (List ℕ)) (bytes : List ℕ) → IfS
 large_by asked None bytes e l = tt
 large_by asked (Some all) bytes e l = inr (subst (λ bs. most_lines asked < length (lines_of bs)) e l)
 
--- a source with more bytes than are taken is too large
+-- an input of more bytes than are taken is too large
 pub bytes_large : (asked : Asked) (told : Option (List ℕ)) (most : ℕ) → most ≡ most_bytes asked → IfSome told (λ bytes. most < length bytes) → IfSome told (IsTooLarge asked)
 bytes_large asked None most e l = tt
 bytes_large asked (Some all) most e l = inl (subst (λ n. n < length all) e l)
 
 -- what is due to the bytes of an input is due to it
-pub input_due : (words : List (List ℕ)) (told : Option (List ℕ)) (rose : Type 0) (asked : Asked) (bytes : List ℕ) (due : Due) → Asks words asked → length bytes ≤ most_bytes asked → IfSome told (λ all. bytes ≡ all)
+pub input_due : (words : List (List ℕ)) (told : Option (List ℕ)) (rose : Type 0) (asked : Asked) (bytes : List ℕ) (due : Due) → Asks words asked → length bytes ≤ most_bytes asked → IfSome (input_told asked told) (λ all. bytes ≡ all)
     → IsDueToInput asked bytes due → IsDue words told rose due.cause due.journal.items due.text.items due.cluster
 input_due words told rose asked bytes due asks within is (inl (few, inl done)) =
     subst (λ c. IsDue words told rose c due.journal.items due.text.items due.cluster) (sym done.0)
@@ -84,7 +95,7 @@ input_due words told rose asked bytes due asks within is (inl (few, inl done)) =
 input_due words told rose asked bytes due asks within is (inl (few, inr (cause, refused, line))) =
     line_is_due words told rose cause due line (refused_why words told rose asked bytes cause asks (record { is = is; within = (within, few) }) refused)
 input_due words told rose asked bytes due asks within is (inr (many, line)) =
-    line_is_due words told rose causes.TooLarge due line (asked, asks, large_by asked told bytes is many)
+    line_is_due words told rose causes.TooLarge due line (asked, asks, large_by asked (input_told asked told) bytes is many)
 
 -- ---- an input that is refused
 
@@ -99,25 +110,39 @@ asked_one (Play true) (Play true) e = refl
 asked_one (Step false) (Step false) e = refl
 asked_one (Step true) (Step true) e = refl
 asked_one Check Check e = refl
-asked_one (Play false) (Play true) e = absurd (flags_differ (ap (λ m. m.1) e))
-asked_one (Play true) (Play false) e = absurd (flags_differ (ap (λ m. m.1) (sym e)))
-asked_one (Step false) (Step true) e = absurd (flags_differ (ap (λ m. m.1) e))
-asked_one (Step true) (Step false) e = absurd (flags_differ (ap (λ m. m.1) (sym e)))
-asked_one (Play a) (Step b) e = let differ : true ≡ false = ap (λ m. slice_index m.0 0 == 112) e in cc
-asked_one (Play a) Check e = let differ : true ≡ false = ap (λ m. slice_index m.0 0 == 112) e in cc
-asked_one (Step a) (Play b) e = let differ : true ≡ false = ap (λ m. slice_index m.0 0 == 115) e in cc
-asked_one (Step a) Check e = let differ : true ≡ false = ap (λ m. slice_index m.0 0 == 115) e in cc
-asked_one Check (Play b) e = let differ : true ≡ false = ap (λ m. slice_index m.0 0 == 99) e in cc
-asked_one Check (Step b) e = let differ : true ≡ false = ap (λ m. slice_index m.0 0 == 99) e in cc
+asked_one (Load a s) (Load b t) e = ap₂ Load (same_Some a b (ap (λ m. m.size) e)) (same_Some s t (ap (λ m. m.seed) e))
+asked_one (Play false) (Play true) e = absurd (flags_differ (ap (λ m. m.flag) e))
+asked_one (Play true) (Play false) e = absurd (flags_differ (ap (λ m. m.flag) (sym e)))
+asked_one (Step false) (Step true) e = absurd (flags_differ (ap (λ m. m.flag) e))
+asked_one (Step true) (Step false) e = absurd (flags_differ (ap (λ m. m.flag) (sym e)))
+asked_one (Play a) (Step b) e = let differ : true ≡ false = ap (λ m. slice_index m.name 0 == 112) e in cc
+asked_one (Play a) Check e = let differ : true ≡ false = ap (λ m. slice_index m.name 0 == 112) e in cc
+asked_one (Play a) (Load b t) e = let differ : true ≡ false = ap (λ m. slice_index m.name 0 == 112) e in cc
+asked_one (Step a) (Play b) e = let differ : true ≡ false = ap (λ m. slice_index m.name 0 == 115) e in cc
+asked_one (Step a) Check e = let differ : true ≡ false = ap (λ m. slice_index m.name 0 == 115) e in cc
+asked_one (Step a) (Load b t) e = let differ : true ≡ false = ap (λ m. slice_index m.name 0 == 115) e in cc
+asked_one Check (Play b) e = let differ : true ≡ false = ap (λ m. slice_index m.name 0 == 99) e in cc
+asked_one Check (Step b) e = let differ : true ≡ false = ap (λ m. slice_index m.name 0 == 99) e in cc
+asked_one Check (Load b t) e = let differ : true ≡ false = ap (λ m. slice_index m.name 0 == 99) e in cc
+asked_one (Load a s) (Play b) e = let differ : true ≡ false = ap (λ m. slice_index m.name 0 == 108) e in cc
+asked_one (Load a s) (Step b) e = let differ : true ≡ false = ap (λ m. slice_index m.name 0 == 108) e in cc
+asked_one (Load a s) Check e = let differ : true ≡ false = ap (λ m. slice_index m.name 0 == 108) e in cc
 
-asks_one : (words : List (List ℕ)) (a b : Asked) → Asks words a → Asks words b → a ≡ b
+pub asks_one : (words : List (List ℕ)) (a b : Asked) → Asks words a → Asks words b → a ≡ b
 asks_one words a b h k = asked_one a b (same_Some (means a) (means b) (sym h.named ∙ k.named))
 
+-- nothing is read of what has no input
+pub none_read : (words : List (List ℕ)) (asked : Asked) → Asks words asked → AskToReadNothing words → HasInput asked → ⊥
+none_read words asked asks (inl none) has = asks.taken none
+none_read words asked asks (inr (other, asks', unread)) has = unread (subst HasInput (asks_one words asked other asks asks') has)
+
 -- what holds of what is asked for and the input holds of these
-asked_of : (words : List (List ℕ)) (told : Option (List ℕ)) (holds : Asked → List ℕ → Type 0) (asked : Asked) (all : List ℕ) → IsAsked words told holds → Asks words asked → told ≡ Some all → holds asked all × IsWithin asked all
+asked_of : (words : List (List ℕ)) (told : Option (List ℕ)) (holds : Asked → List ℕ → Type 0) (asked : Asked) (all : List ℕ) → IsAsked words told holds → Asks words asked → input_told asked told ≡ Some all
+    → holds asked all × IsWithin asked all
 asked_of words told holds asked all h asks e =
-    let is : h.bytes ≡ all = subst (λ t. IfSome t (λ all. h.bytes ≡ all)) e h.input.is in
-    subst (λ a. holds a all × IsWithin a all) (asks_one words h.asked asked h.asks asks)
+    let same = asks_one words h.asked asked h.asks asks in
+    let is : h.bytes ≡ all = subst (λ t. IfSome t (λ all. h.bytes ≡ all)) e (subst (λ a. IfSome (input_told a told) (λ all. h.bytes ≡ all)) same h.input.is) in
+    subst (λ a. holds a all × IsWithin a all) same
     (subst (λ bytes. holds h.asked bytes × IsWithin h.asked bytes) is (h.so, h.input.within))
 
 -- an input is refused as a script or a step file, or as a journal
@@ -142,18 +167,21 @@ no_fault : (asked : Asked) (bytes : List ℕ) (line kind : ℕ) → asked ≡ Ch
 no_fault Check bytes line kind e h = h
 no_fault (Play kept) bytes line kind e h = cc
 no_fault (Step kept) bytes line kind e h = cc
+no_fault (Load blocks seed) bytes line kind e h = h
 
 -- what is in its grammar has none
 right_no_fault : (asked : Asked) (bytes : List ℕ) (line kind : ℕ) → IsInGrammar asked bytes → IsFaulty asked bytes line kind → ⊥
 right_no_fault (Play kept) bytes line kind right h = right_has_no_fault script_grammar bytes line kind right h
 right_no_fault (Step kept) bytes line kind right h = right_has_no_fault step_grammar bytes line kind right h
 right_no_fault Check bytes line kind right h = h
+right_no_fault (Load blocks seed) bytes line kind right h = h
 
 -- there is one first fault
 fault_one : (asked : Asked) (bytes : List ℕ) (line kind l k : ℕ) → IsFaulty asked bytes line kind → IsFaulty asked bytes l k → causes.Script line kind ≡ causes.Script l k
 fault_one (Play kept) bytes line kind l k h i = let same = first_fault_is_one script_grammar bytes line kind l k h i in ap (λ n. causes.Script n kind) same.0 ∙ ap (causes.Script l) same.1
 fault_one (Step kept) bytes line kind l k h i = let same = first_fault_is_one step_grammar bytes line kind l k h i in ap (λ n. causes.Script n kind) same.0 ∙ ap (causes.Script l) same.1
 fault_one Check bytes line kind l k h i = absurd h
+fault_one (Load blocks seed) bytes line kind l k h i = absurd h
 
 -- the cause of a verdict
 abbrev cause_by : Verdict → Cause
@@ -181,11 +209,14 @@ done_right : (asked : Asked) (bytes : List ℕ) (journal : List Event) (text : L
 done_right (Play kept) bytes journal text cluster cause (script, says, tells) (as_script line kind e h) = right_has_no_fault script_grammar bytes line kind says.right h
 done_right (Step kept) bytes journal text cluster cause (steps, says, tells) (as_script line kind e h) = right_has_no_fault step_grammar bytes line kind says.right h
 done_right Check bytes journal text cluster cause h (as_script line kind e f) = f
+done_right (Load blocks seed) bytes journal text cluster cause h (as_script line kind e f) = f
 done_right (Play kept) bytes journal text cluster cause h (as_illegal line reason e check f) = cc
 done_right (Step kept) bytes journal text cluster cause h (as_illegal line reason e check f) = cc
+done_right (Load blocks seed) bytes journal text cluster cause h (as_illegal line reason e check f) = cc
 done_right Check bytes journal text cluster cause h (as_illegal line reason e check f) = let same = verdict_one bytes (verdicts.Legal h.0.world journal) (verdicts.Illegal line reason) h.0.legal f in cc
 done_right (Play kept) bytes journal text cluster cause h (as_unreadable line kind e check f) = cc
 done_right (Step kept) bytes journal text cluster cause h (as_unreadable line kind e check f) = cc
+done_right (Load blocks seed) bytes journal text cluster cause h (as_unreadable line kind e check f) = cc
 done_right Check bytes journal text cluster cause h (as_unreadable line kind e check f) = let same = verdict_one bytes (verdicts.Legal h.0.world journal) (verdicts.Unreadable line kind) h.0.legal f in cc
 
 within_too_large : (asked : Asked) (all : List ℕ) → IsWithin asked all → IsTooLarge asked all → ⊥
@@ -205,23 +236,27 @@ module _ (words : List (List ℕ)) (told : Option (List ℕ)) (rose : Type 0) (j
   IsDueFor cause = IsDue words told rose cause journal text cluster
 
   -- the input is refused, of words that ask for this
-  refused_of : (cause : Cause) (asked : Asked) (all : List ℕ) → IsAsked words told (λ a bytes. IsRefusedFor a bytes cause) → Asks words asked → told ≡ Some all → Refusal asked all cause
+  refused_of : (cause : Cause) (asked : Asked) (all : List ℕ) → IsAsked words told (λ a bytes. IsRefusedFor a bytes cause) → Asks words asked → input_told asked told ≡ Some all → Refusal asked all cause
   refused_of cause asked all h asks e = refusal_as asked all cause (asked_of words told (λ a bytes. IsRefusedFor a bytes cause) asked all h asks e).0
 
-  found : (cause : Cause) (asked : Asked) (all : List ℕ) → IsDueFor cause → Asks words asked → told ≡ Some all → IsWithin asked all → (rose → ⊥) → Found asked all cause journal text cluster
+  -- the source fails only where an input is read
+  read_fails : (asked : Asked) → AskToRead words × rose → Asks words asked → (HasInput asked → rose → ⊥) → ⊥
+  read_fails asked ((other, asks', has), failed) asks fails = fails (subst HasInput (asks_one words other asked asks' asks) has) failed
+
+  found : (cause : Cause) (asked : Asked) (all : List ℕ) → IsDueFor cause → Asks words asked → input_told asked told ≡ Some all → IsWithin asked all → (HasInput asked → rose → ⊥) → Found asked all cause journal text cluster
   found causes.Done asked all due asks e within fails = was_done refl (asked_of words told (λ a bytes. WasDone a bytes journal text cluster) asked all due asks e).0
   found causes.Usage asked all due asks e within fails = absurd (asks.taken due.because)
   found (causes.Script line kind) asked all due asks e within fails = was_refused (refused_of (causes.Script line kind) asked all due.because asks e)
-  found causes.ReadFault asked all due asks e within fails = absurd (fails due.because.1)
+  found causes.ReadFault asked all due asks e within fails = absurd (read_fails asked due.because asks fails)
   found causes.WriteFault asked all due asks e within fails = absurd due.because
   found causes.OutOfMemory asked all due asks e within fails = wanted_memory refl
   found causes.TooLarge asked all due asks e within fails =
-      absurd (within_too_large asked all within (subst (λ a. IsTooLarge a all) (asks_one words due.because.0 asked due.because.1 asks) (subst (λ t. IfSome t (IsTooLarge due.because.0)) e due.because.2)))
+      absurd (within_too_large asked all within (subst (λ t. IfSome t (IsTooLarge asked)) e (subst (λ a. IfSome (input_told a told) (IsTooLarge a)) (asks_one words due.because.0 asked due.because.1 asks) due.because.2)))
   found (causes.Illegal line code) asked all due asks e within fails = was_refused (refused_of (causes.Illegal line code) asked all due.because asks e)
   found (causes.Unreadable line kind) asked all due asks e within fails = was_refused (refused_of (causes.Unreadable line kind) asked all due.because asks e)
 
   -- a refusal of the input is told
-  pub refused_told : (cause other : Cause) (asked : Asked) (all : List ℕ) → IsDueFor cause → Asks words asked → told ≡ Some all → IsWithin asked all → IsRefusedFor asked all other → (rose → ⊥) → (cause ≡ other) ⊎ (cause ≡ causes.OutOfMemory)
+  pub refused_told : (cause other : Cause) (asked : Asked) (all : List ℕ) → IsDueFor cause → Asks words asked → input_told asked told ≡ Some all → IsWithin asked all → IsRefusedFor asked all other → (HasInput asked → rose → ⊥) → (cause ≡ other) ⊎ (cause ≡ causes.OutOfMemory)
   refused_told cause other asked all due asks e within refused fails = by_found (found cause asked all due asks e within fails)
     where
       by_found : Found asked all cause journal text cluster → (cause ≡ other) ⊎ (cause ≡ causes.OutOfMemory)
@@ -230,23 +265,26 @@ module _ (words : List (List ℕ)) (told : Option (List ℕ)) (rose : Type 0) (j
       by_found (wanted_memory is) = inr is
 
   -- and an input in its grammar is answered so
-  pub right_told : (cause : Cause) (asked : Asked) (all : List ℕ) → IsDueFor cause → Asks words asked → told ≡ Some all → IsWithin asked all → IsInGrammar asked all → (rose → ⊥) → IsComplete asked cause
+  pub right_told : (cause : Cause) (asked : Asked) (all : List ℕ) → IsDueFor cause → Asks words asked → input_told asked told ≡ Some all → IsWithin asked all → IsInGrammar asked all → (HasInput asked → rose → ⊥) → IsComplete asked cause
   right_told cause asked all due asks e within right fails = by_found (found cause asked all due asks e within fails)
     where
       done : (asked : Asked) → cause ≡ causes.Done → IsComplete asked cause
       done (Play kept) is = inl is
       done (Step kept) is = inl is
       done Check is = inl is
+      done (Load blocks seed) is = inl is
 
       memory : (asked : Asked) → cause ≡ causes.OutOfMemory → IsComplete asked cause
       memory (Play kept) is = inr is
       memory (Step kept) is = inr is
       memory Check is = inr (inl is)
+      memory (Load blocks seed) is = inr is
 
       illegal : (asked : Asked) (line code : ℕ) → cause ≡ causes.Illegal line code → asked ≡ Check → IsComplete asked cause
       illegal (Play kept) line code is check = cc
       illegal (Step kept) line code is check = cc
       illegal Check line code is check = inr (inr (line, code, is))
+      illegal (Load blocks seed) line code is check = cc
 
       by_found : Found asked all cause journal text cluster → IsComplete asked cause
       by_found (was_done is h) = done asked is
@@ -282,11 +320,11 @@ module _ (words : List (List ℕ)) (told : Option (List ℕ)) (rose : Type 0) (j
   usage_told (causes.Unreadable line kind) due none = absurd (due.because.asks.taken none)
 
   -- and an input that is too large
-  pub large_told : (cause : Cause) (asked : Asked) (all : List ℕ) → IsDueFor cause → Asks words asked → told ≡ Some all → IsTooLarge asked all → (rose → ⊥) → (cause ≡ causes.TooLarge) ⊎ (cause ≡ causes.OutOfMemory)
+  pub large_told : (cause : Cause) (asked : Asked) (all : List ℕ) → IsDueFor cause → Asks words asked → input_told asked told ≡ Some all → IsTooLarge asked all → (HasInput asked → rose → ⊥) → (cause ≡ causes.TooLarge) ⊎ (cause ≡ causes.OutOfMemory)
   large_told causes.Done asked all due asks e large fails = absurd (within_too_large asked all (asked_of words told (λ a bytes. WasDone a bytes journal text cluster) asked all due asks e).1 large)
   large_told causes.Usage asked all due asks e large fails = absurd (asks.taken due.because)
   large_told (causes.Script line kind) asked all due asks e large fails = absurd (within_too_large asked all (asked_of words told (λ a bytes. IsRefusedFor a bytes (causes.Script line kind)) asked all due.because asks e).1 large)
-  large_told causes.ReadFault asked all due asks e large fails = absurd (fails due.because.1)
+  large_told causes.ReadFault asked all due asks e large fails = absurd (read_fails asked due.because asks fails)
   large_told causes.WriteFault asked all due asks e large fails = absurd due.because
   large_told causes.OutOfMemory asked all due asks e large fails = inr refl
   large_told causes.TooLarge asked all due asks e large fails = inl refl

@@ -8,7 +8,7 @@ use Rattle.group_view.specs.Change.{AreOpeningNames}
 use Rattle.ring_rules.specs.declared.event.Event.{Event}
 use Rattle.ring_rules.specs.Machine.{World}
 use Rattle.ring_rules.specs.Step.{opening}
-use Rattle.ring_rules.specs.Event.{IsRun, effect, last, refusals_of}
+use Rattle.ring_rules.specs.Event.{IsRun, effect, last}
 use Rattle.ring_rules.specs.Laws.{IsLawful, GoesOn}
 use Rattle.ring_rules.specs.QueueLaws.{QueueIsRight, LaterMastersStart}
 use Rattle.ring_rules.specs.Quiet.{IsQuiet}
@@ -17,7 +17,7 @@ use Rattle.ring_rules.proofs.runs.AllRuns.{every_state_lawful, every_run_goes_on
 use Rattle.ring_rules.proofs.queue.Runs.{run_queue_right}
 use Rattle.ring_rules.proofs.queue.Starts.{run_starts}
 use Rattle.ring_cluster.specs.Seen.{Seen, IsGoing, state_of, opening_seen}
-use Rattle.ring_cluster.specs.Plays.{IsOfMember, Plays, HasGoneOn, AgendasAreEmpty}
+use Rattle.ring_cluster.specs.Plays.{IsOfMember, HasGoneOn}
 use Rattle.ring_cluster.specs.Heard.{OpenersHaveNoBase}
 use Rattle.ring_cluster.proofs.work.Bases.{reached_bases}
 use Rattle.ring_cluster.proofs.work.Heard.{run_quiet_has_heard}
@@ -25,7 +25,7 @@ use Rattle.std.specs.List.{All}
 use Rattle.ring_script.specs.declared.text.Text.{Text}
 use Rattle.ring_script.specs.Script.{joined_by}
 use Rattle.ring_script.specs.Reading.{MayBeGiven, MayEachBeGiven}
-use Rattle.ring_report.specs.Report.{report_of}
+use Rattle.ringplay.specs.Due.{HasPlayed}
 use Rattle.ringplay.specs.Performed.{state_after, IsLawfulRun, SameRing, HasTurns, commands_on, given_of, IsPlayedBy}
 
 -- ---- commands
@@ -124,24 +124,6 @@ has_run credit names journal c ec en ej going =
 
 -- ---- a played script
 
--- a cluster that has performed a script and settled has played it
-pub played_by : (script : Text Command) (c : Seen) (journal : List Event) (text : List ℕ) → c.credit ≡ script.credit → c.names ≡ script.members → c.given ≡ given_of script
-    → IsGoing c → IsQuiet (state_of c) → AgendasAreEmpty c → Plays c.credit c.names c.events c.given → journal ≡ c.events
-    → text ≡ report_of (state_of c) (refusals_of c.events) → IsPlayedBy script journal text (Some c)
-played_by script c journal text ec en eg going quiet empty plays ej et =
-    let ran = has_run script.credit script.members journal c ec en ej going in
-    let quiet' : IsQuiet (last (opening script.credit script.members) journal) = subst IsQuiet ran.state quiet in
-    record {
-      played = record {
-        run = ran.run;
-        plays = rw (sym ec, sym en, ej, sym eg) plays;
-        quiet = quiet';
-        heard_all = run_quiet_has_heard script.credit script.members journal ran.are ran.run.run quiet'.rests;
-        report = et ∙ ap (λ w. report_of w (refusals_of c.events)) ran.state ∙ ap (λ es. report_of (last (opening script.credit script.members) journal) (refusals_of es)) (sym ej);
-      };
-      by = record { seen = c; is = refl; names = en; credit = ec; events = sym ej; given = eg; empty = empty };
-    }
-
 -- A cluster's ring opened with this credit and these members.
 pub record IsOf (initial : CreditSpec) (members : List (List ℕ)) (c : Seen) : Type 0 where
   pub credit : c.credit ≡ initial
@@ -154,17 +136,35 @@ performed_of credit names a b c ea ring goes = record {
   names = goes.1.names ∙ ring.0 ∙ ap (λ s. s.names) ea;
 }
 
--- what opened as a was given the commands of a script to b, and a settling to c, was given what a ring is
-pub given_all : (script : Text Command) (a b c : Seen) → a ≡ opening_seen script.credit script.members → b.given ≡ a.given ++ commands_on script.lines → c.given ≡ b.given ++ command.Settle ∷ []
-    → c.given ≡ given_of script
-given_all script a b c ea given settled = settled ∙ ap (λ xs. xs ++ command.Settle ∷ []) (given ∙ ap (λ s. s.given ++ commands_on script.lines) ea)
+-- what opened as a, was given the commands of lines to b, and a settling to c, was given both
+pub given_all : (credit : CreditSpec) (names : List (List ℕ)) (a b c : Seen) (commands : List Command) → a ≡ opening_seen credit names → b.given ≡ a.given ++ commands
+    → c.given ≡ b.given ++ command.Settle ∷ [] → c.given ≡ commands ++ command.Settle ∷ []
+given_all credit names a b c commands ea given settled = settled ∙ ap (λ xs. xs ++ command.Settle ∷ []) (given ∙ ap (λ s. s.given ++ commands) ea)
 
--- a cluster that opened as a, performed the commands of a script to b and settled to c
-pub played_all : (script : Text Command) (a b c : Seen) (journal : List Event) (text : List ℕ) → a ≡ opening_seen script.credit script.members → IsOf script.credit script.members c
-    → b.given ≡ a.given ++ commands_on script.lines → c.given ≡ b.given ++ command.Settle ∷ []
-    → IsGoing c → IsQuiet (state_of c) → AgendasAreEmpty c → Plays c.credit c.names c.events c.given → journal ≡ c.events
-    → text ≡ report_of (state_of c) (refusals_of c.events) → IsPlayedBy script journal text (Some c)
-played_all script a b c journal text ea of given settled going quiet empty plays ej et =
-    played_by script c journal text of.credit of.names
-    (given_all script a b c ea given settled)
-    going quiet empty plays ej et
+-- what has played the commands of a script's lines has played what its ring is given
+pub has_played : (script : Text Command) (names : List (List ℕ)) (lines : List (ℕ × Command)) (c : Seen) → names ≡ script.members → lines ≡ script.lines
+    → HasPlayed script.credit names (commands_on lines ++ command.Settle ∷ []) c → HasPlayed script.credit script.members (given_of script) c
+has_played script names lines c en el h =
+    subst (λ ns. HasPlayed script.credit ns (given_of script) c) en
+    (subst (λ ls. HasPlayed script.credit names (commands_on ls ++ command.Settle ∷ []) c) el h)
+
+-- its journal
+pub played_run : (script : Text Command) (journal : List Event) (c : Seen) → HasPlayed script.credit script.members (given_of script) c → journal ≡ c.events → HasRun script.credit script.members journal c
+played_run script journal c h ej = has_run script.credit script.members journal c h.credit h.names ej h.going
+
+-- it has played the script, where this is told of its state
+pub played_by : (says : World → List Event → List ℕ) (script : Text Command) (c : Seen) (journal : List Event) (text : List ℕ) → HasPlayed script.credit script.members (given_of script) c
+    → journal ≡ c.events → text ≡ says (state_of c) c.events → IsPlayedBy says script journal text (Some c)
+played_by says script c journal text h ej et =
+    let ran = played_run script journal c h ej in
+    let quiet : IsQuiet (last (opening script.credit script.members) journal) = subst IsQuiet ran.state h.quiet in
+    record {
+      played = record {
+        run = ran.run;
+        plays = rw (sym h.credit, sym h.names, ej, sym h.given) h.plays;
+        quiet = quiet;
+        heard_all = run_quiet_has_heard script.credit script.members journal ran.are ran.run.run quiet.rests;
+        says_so = et ∙ ap (λ w. says w c.events) ran.state ∙ ap (says (last (opening script.credit script.members) journal)) (sym ej);
+      };
+      by = record { seen = c; is = refl; names = h.names; credit = h.credit; events = sym ej; given = h.given; empty = h.empty };
+    }

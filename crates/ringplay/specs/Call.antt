@@ -1,5 +1,5 @@
 -- What the top call answers, and why.
-use Rattle.std.specs.Prelude.{◌≡◌, ◌⊎◌, ℕ, ◌<◌, ◌≤◌, List, [], length, take, Option, None, IfSome, ⊤}
+use Rattle.std.specs.Prelude.{◌≡◌, ◌⊎◌, ℕ, ◌<◌, ◌≤◌, List, [], length, take, Option, Some, None, IfSome, ⊤}
 use Rattle.ring_names.specs.declared.reason.Reason.{Reason}
 use Rattle.ring_names.specs.Reason.{code_of}
 use Rattle.ring_script.specs.Words.{lines_of}
@@ -11,7 +11,7 @@ use Rattle.ring_journal.specs.declared.verdict.Verdict.TheVariants as verdicts
 use Rattle.ring_journal.specs.Text.{IsVerdictOf}
 use Rattle.ring_cluster.specs.Seen.{Seen}
 use Rattle.ring_words.specs.declared.asked.Asked.{Asked}
-use Rattle.ring_words.specs.declared.asked.Asked.TheVariants.{Play, Step, Check}
+use Rattle.ring_words.specs.declared.asked.Asked.TheVariants.{Play, Step, Check, Load}
 use Rattle.ringplay.specs.declared.cause.Cause.{Cause}
 use Rattle.ringplay.specs.declared.cause.Cause.TheVariants as causes
 use Rattle.ringplay.specs.declared.call.Ended.{Ended}
@@ -21,17 +21,29 @@ use Rattle.ringplay.specs.Performed.{WasDone}
 
 -- ---- what is read
 
+-- a command has an input, which the source gives: each but `load`
+abbrev pub HasInput : Asked → Type 0
+HasInput (Load blocks seed) = ⊥
+HasInput asked = ⊤
+
+-- what is told of the input: what the source tells, or that it is empty, where there is none
+abbrev pub input_told : Asked → Option (List ℕ) → Option (List ℕ)
+input_told (Load blocks seed) told = Some []
+input_told asked told = told
+
 -- how many bytes of input are taken
 abbrev pub most_bytes : Asked → ℕ
 most_bytes (Play kept) = 1048576
 most_bytes (Step kept) = 1048576
 most_bytes Check = 16777216
+most_bytes (Load blocks seed) = 0
 
 -- how many lines
 abbrev pub most_lines : Asked → ℕ
 most_lines (Play kept) = 20000
 most_lines (Step kept) = 20000
 most_lines Check = 400000
+most_lines (Load blocks seed) = 0
 
 -- an input is within the limits
 abbrev pub IsWithin : Asked → List ℕ → Type 0
@@ -41,9 +53,9 @@ IsWithin asked bytes = (length bytes ≤ most_bytes asked) × (length (lines_of 
 abbrev pub IsTooLarge : Asked → List ℕ → Type 0
 IsTooLarge asked bytes = (most_bytes asked < length bytes) ⊎ (most_lines asked < length (lines_of bytes))
 
--- the input is these bytes, where the source tells it, and they are within the limits
+-- the input is these bytes, where it is told, and they are within the limits
 pub record IsInput (asked : Asked) (told : Option (List ℕ)) (bytes : List ℕ) : Type 0 where
-  pub is : IfSome told (λ all. bytes ≡ all)
+  pub is : IfSome (input_told asked told) (λ all. bytes ≡ all)
   pub within : IsWithin asked bytes
 
 -- the words ask for something, and this holds of that and the input
@@ -60,12 +72,14 @@ abbrev pub IsInGrammar : Asked → List ℕ → Type 0
 IsInGrammar (Play kept) bytes = IsRight script_grammar bytes
 IsInGrammar (Step kept) bytes = IsRight step_grammar bytes
 IsInGrammar Check bytes = (line kind : ℕ) → IsVerdictOf bytes (verdicts.Unreadable line kind) → ⊥
+IsInGrammar (Load blocks seed) bytes = ⊤
 
 -- the first fault of a script or a step file
 abbrev pub IsFaulty : Asked → List ℕ → ℕ → ℕ → Type 0
 IsFaulty (Play kept) bytes line kind = IsFirstFault script_grammar bytes line kind
 IsFaulty (Step kept) bytes line kind = IsFirstFault step_grammar bytes line kind
 IsFaulty Check bytes line kind = ⊥
+IsFaulty (Load blocks seed) bytes line kind = ⊥
 
 -- the event on this line of a journal is refused with this number
 abbrev pub IsIllegal : List ℕ → ℕ → ℕ → Type 0
@@ -80,13 +94,17 @@ IsRefusedFor asked bytes cause = ⊥
 
 -- ---- causes
 
--- the words ask for something
-abbrev pub AsksSome : List (List ℕ) → Type 0
-AsksSome words = (asked : Asked) × Asks words asked
+-- the words ask for what has an input
+abbrev pub AskToRead : List (List ℕ) → Type 0
+AskToRead words = (asked : Asked) × Asks words asked × HasInput asked
 
--- the words ask for something, and what the source tells is too large for it
+-- the words ask for nothing, or for what has no input
+abbrev pub AskToReadNothing : List (List ℕ) → Type 0
+AskToReadNothing words = AsksNothing words ⊎ ((asked : Asked) × Asks words asked × (HasInput asked → ⊥))
+
+-- the words ask for something, and what is told of the input is too large for it
 abbrev pub IsAskedTooMuch : List (List ℕ) → Option (List ℕ) → Type 0
-IsAskedTooMuch words told = (asked : Asked) × Asks words asked × IfSome told (IsTooLarge asked)
+IsAskedTooMuch words told = (asked : Asked) × Asks words asked × IfSome (input_told asked told) (IsTooLarge asked)
 
 -- the words ask for something, and the input is refused for this cause
 abbrev pub IsRefused : List (List ℕ) → Option (List ℕ) → Cause → Type 0
@@ -97,7 +115,7 @@ IsRefused words told cause = IsAsked words told (λ asked bytes. IsRefusedFor as
 abbrev pub IsWhy : List (List ℕ) → Option (List ℕ) → Type 0 → Cause → Type 0
 IsWhy words told rose causes.Done = ⊥
 IsWhy words told rose causes.Usage = AsksNothing words
-IsWhy words told rose causes.ReadFault = AsksSome words × rose
+IsWhy words told rose causes.ReadFault = AskToRead words × rose
 IsWhy words told rose causes.WriteFault = ⊥
 IsWhy words told rose causes.OutOfMemory = ⊤
 IsWhy words told rose causes.TooLarge = IsAskedTooMuch words told
@@ -136,4 +154,5 @@ IsUnlessFailed found due = (found ≡ due) ⊎ (found ≡ causes.WriteFault) ⊎
 abbrev pub IsComplete : Asked → Cause → Type 0
 IsComplete (Play kept) cause = (cause ≡ causes.Done) ⊎ (cause ≡ causes.OutOfMemory)
 IsComplete (Step kept) cause = (cause ≡ causes.Done) ⊎ (cause ≡ causes.OutOfMemory)
+IsComplete (Load blocks seed) cause = (cause ≡ causes.Done) ⊎ (cause ≡ causes.OutOfMemory)
 IsComplete Check cause = (cause ≡ causes.Done) ⊎ (cause ≡ causes.OutOfMemory) ⊎ ((line : ℕ) × (code : ℕ) × (cause ≡ causes.Illegal line code))

@@ -1,6 +1,11 @@
 -- What is due before anything is written, as the parts of the top call hand it on.
 use Rattle.std.specs.Prelude.{◌≡◌, ◌⊎◌, ℕ, ◌<◌, ◌≤◌, List, [], length, None, Result, IfOk, IfErr}
+use Rattle.ring_names.specs.declared.numbers.CreditSpec.{CreditSpec}
+use Rattle.ring_script.specs.declared.command.Command.{Command}
 use Rattle.ring_script.specs.Words.{lines_of}
+use Rattle.ring_rules.specs.Quiet.{IsQuiet}
+use Rattle.ring_cluster.specs.Seen.{Seen, IsGoing, state_of}
+use Rattle.ring_cluster.specs.Plays.{Plays, AgendasAreEmpty}
 use Rattle.ring_words.specs.declared.asked.Asked.{Asked}
 use Rattle.ringplay.specs.declared.cause.Cause.{Cause}
 use Rattle.ringplay.specs.declared.cause.Cause.TheVariants as causes
@@ -9,6 +14,17 @@ use Rattle.ringplay.specs.declared.play.Played.{Played}
 use Rattle.ringplay.specs.Cause.{line_of}
 use Rattle.ringplay.specs.Performed.{WasDone}
 use Rattle.ringplay.specs.Call.{IsRefusedFor, most_lines}
+
+-- A cluster has played these commands: its ring opened with these members and this credit, it was given them and nothing else,
+-- its journal is theirs, and it is quiet, with nobody having anything left to do.
+pub record HasPlayed (initial : CreditSpec) (members : List (List ℕ)) (commands : List Command) (c : Seen) : Type 0 where
+  pub credit : c.credit ≡ initial
+  pub names : c.names ≡ members
+  pub given : c.given ≡ commands
+  pub going : IsGoing c
+  pub plays : Plays c.credit c.names c.events c.given
+  pub quiet : IsQuiet (state_of c)
+  pub empty : AgendasAreEmpty c
 
 -- the line of this cause, no journal and no cluster, or want of memory
 abbrev pub IsLineDue : Cause → Due → Type 0

@@ -6,6 +6,7 @@ use Rattle.ring_names.specs.declared.numbers.CreditSpec.{CreditSpec}
 use Rattle.ring_script.specs.declared.text.Text.{Text}
 use Rattle.ring_script.specs.Script.{most_turns}
 use Rattle.ring_script.specs.Reading.{IsScriptOf, AreStepsOf}
+use Rattle.ring_script.specs.Load.{IsLoad}
 use Rattle.ring_rules.specs.declared.event.Event.{Event}
 use Rattle.ring_rules.specs.Machine.{World}
 use Rattle.ring_rules.specs.Step.{opening}
@@ -15,6 +16,7 @@ use Rattle.ring_rules.specs.QueueLaws.{QueueIsRight, LaterMastersStart}
 use Rattle.ring_rules.specs.Quiet.{IsQuiet}
 use Rattle.ring_world.specs.Reached.{WorldSeen}
 use Rattle.ring_report.specs.Report.{report_of}
+use Rattle.ring_report.specs.Summary.{summary_of}
 use Rattle.ring_journal.specs.declared.verdict.Verdict.{Verdict}
 use Rattle.ring_journal.specs.declared.verdict.Verdict.TheVariants.{Legal}
 use Rattle.ring_journal.specs.Text.{opened, IsVerdictOf}
@@ -25,7 +27,7 @@ use Rattle.ring_cluster.specs.Seen.{Seen}
 use Rattle.ring_cluster.specs.Heard.{OpenersHaveNoBase, HasHeardAll}
 use Rattle.ring_cluster.specs.Plays.{Plays, AgendasAreEmpty}
 use Rattle.ring_words.specs.declared.asked.Asked.{Asked}
-use Rattle.ring_words.specs.declared.asked.Asked.TheVariants.{Play, Step, Check}
+use Rattle.ring_words.specs.declared.asked.Asked.TheVariants.{Play, Step, Check, Load}
 use Rattle.ringplay.specs.Step.{enabled_of, refused_lines}
 
 -- ---- what has happened
@@ -78,20 +80,27 @@ commands_on lines = map (λ line. line.1) lines
 abbrev pub given_of : Text Command → List Command
 given_of script = commands_on script.lines ++ Settle ∷ []
 
+-- the report of a state, and of the refusals on the way to it
+abbrev pub reported : World → List Event → List ℕ
+reported w journal = report_of w (refusals_of journal)
+
+-- the summary of a state behind so many blocks
+abbrev pub summed : ℕ → World → List Event → List ℕ
+summed blocks w journal = summary_of blocks w
+
 -- The journal is a lawful run. Each member's client events in it are its commands, and at each settling all earlier
 -- commands were done or refused and the ring was quiet. It is quiet in the last state, each message of a running member
--- is confirmed there, and every member that is up has heard all these from its base on; and the text is the report of it
--- and of all refusals.
-pub record IsPlayed (script : Text Command) (journal : List Event) (text : List ℕ) : Type 0 where
+-- is confirmed there, and every member that is up has heard all these from its base on; and the text says this of it.
+pub record IsPlayed (says : World → List Event → List ℕ) (script : Text Command) (journal : List Event) (text : List ℕ) : Type 0 where
   pub run : IsLawfulRun script.credit script.members journal
   pub plays : Plays script.credit script.members journal (given_of script)
   pub quiet : IsQuiet (last (opening script.credit script.members) journal)
   pub heard_all : HasHeardAll script.members (last (opening script.credit script.members) journal)
-  pub report : text ≡ report_of (last (opening script.credit script.members) journal) (refusals_of journal)
+  pub says_so : text ≡ says (last (opening script.credit script.members) journal) journal
 
 -- the script was played, by this cluster
-pub record IsPlayedBy (script : Text Command) (journal : List Event) (text : List ℕ) (cluster : Option Seen) : Type 0 where
-  pub played : IsPlayed script journal text
+pub record IsPlayedBy (says : World → List Event → List ℕ) (script : Text Command) (journal : List Event) (text : List ℕ) (cluster : Option Seen) : Type 0 where
+  pub played : IsPlayed says script journal text
   pub by : HappenedIn script.credit script.members (given_of script) journal cluster
 
 -- ---- what is stepped
@@ -141,12 +150,15 @@ pub record IsChecked (bytes : List ℕ) (journal : List Event) (text : List ℕ)
 
 -- ---- what is asked for
 
--- bytes spell what was asked for, and this cluster did it; a journal is checked without one
+-- bytes spell what was asked for, and this cluster did it; a journal is checked without one, and the load script was played
+-- whatever the bytes
 abbrev pub WasDone : Asked → List ℕ → List Event → List ℕ → Option Seen → Type 0
 WasDone (Play kept) bytes journal text cluster =
     (script : Text Command) × IsScriptOf bytes script
-    × Tells kept script.credit script.members journal (λ report. IsPlayedBy script journal report cluster) text
+    × Tells kept script.credit script.members journal (λ report. IsPlayedBy reported script journal report cluster) text
 WasDone (Step kept) bytes journal text cluster =
     (steps : Text Event) × AreStepsOf bytes steps
     × Tells kept steps.credit steps.members journal (λ report. AreSteppedBy steps journal report cluster) text
 WasDone Check bytes journal text cluster = IsChecked bytes journal text × (cluster ≡ None)
+WasDone (Load blocks seed) bytes journal text cluster =
+    (script : Text Command) × IsLoad blocks seed script × IsPlayedBy (summed blocks) script journal text cluster

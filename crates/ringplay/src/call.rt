@@ -1,20 +1,22 @@
 //! The top call: all that the program does, over any source and sink.
-ghost use Rattle.std.specs.Prelude.{◌≡◌, ℕ, ◌≤◌, List, Some, length};
+ghost use Rattle.std.specs.Prelude.{◌≡◌, ℕ, ◌≤◌, ◌<◌, List, Some, Err, length, IfOk, OnOk, IfSome};
 ghost use Rattle.std.specs.Io.KnownBytes.{IsAtEnd};
 ghost use Rattle.ring_io.specs.Contents.{Gains};
 ghost use Rattle.ring_io.specs.Count.{Rose};
 ghost use Rattle.ring_script.specs.Words.{lines_of};
 ghost use Rattle.ring_words.specs.declared.asked.Asked.{Asked};
+ghost use Rattle.ring_words.specs.Words.{IsInRange};
 ghost use Rattle.ringplay.specs.Words.{Asks, AsksNothing};
 ghost use Rattle.ringplay.specs.Cause.{status_of};
 ghost use Rattle.ringplay.specs.Due.{IsLineDue, DoesAsAsked, IsDueToInput};
 ghost use Rattle.ringplay.specs.Call.{Answers, IsDue, IsWritten, IsUnlessFailed, IsWithin, IsTooLarge, IsAskedTooMuch};
 ghost use Rattle.ringplay.specs.Call.{IsInGrammar, IsRefused, IsRefusedFor, IsComplete};
+ghost use Rattle.ringplay.specs.Call.{HasInput, AskToRead, AskToReadNothing, input_told};
 ghost use Rattle.ringplay.specs.Call.{most_bytes as the_most_bytes, most_lines as the_most_lines};
 
 use crate::cause::Cause;
 use crate::judge::judge;
-use crate::play::{Played, play};
+use crate::play::{Played, load, play};
 use crate::step::step;
 use crate::word::{Word, asked_by};
 use ring_cluster::Cluster;
@@ -66,6 +68,7 @@ fn most_bytes(asked: Asked) -> u64
     match asked {
         Asked::Play { .. } | Asked::Step { .. } => MOST_BYTES,
         Asked::Check => MOST_JOURNAL_BYTES,
+        Asked::Load { .. } => 0,
     }
 }
 
@@ -75,6 +78,7 @@ fn most_lines(asked: Asked) -> u64
     match asked {
         Asked::Play { .. } | Asked::Step { .. } => MOST_LINES,
         Asked::Check => MOST_JOURNAL_LINES,
+        Asked::Load { .. } => 0,
     }
 }
 
@@ -107,6 +111,7 @@ fn due_to_input<T: Threads, G: Gate>(
     bytes: Vec<u8>,
     gate: &G,
 ) -> Due
+    requires { IsInRange asked }
     ensures { IsDueToInput asked bytes.items result }
 {
     if line_count(&bytes) > most_lines(asked) {
@@ -131,13 +136,15 @@ fn done<T: Threads, G: Gate>(
     bytes: Vec<u8>,
     gate: &G,
 ) -> Result<Played, Cause>
-    requires { length (lines_of bytes.items) ≤ the_most_lines asked }
+    requires range { IsInRange asked }
+    requires lines { length (lines_of bytes.items) ≤ the_most_lines asked }
     ensures { DoesAsAsked asked bytes.items result }
 {
     match asked {
         Asked::Play { journal } => done_by_script(threads, alloc, journal, bytes, gate),
         Asked::Step { journal } => done_by_steps(alloc, journal, bytes),
         Asked::Check => judge(alloc, bytes),
+        Asked::Load { blocks, seed } => Ok(load(threads, alloc, blocks, seed, gate)?),
     }
 }
 
@@ -165,6 +172,24 @@ fn done_by_steps(alloc: Global, journal: bool, bytes: Vec<u8>) -> Result<Played,
     Ok(played)
 }
 
+/// The input of what is asked for, which is read to its end: nothing, and unread, where it has none.
+fn input_of<S: Source>(alloc: Global, asked: Asked, source: &mut S) -> Result<Vec<u8>, ReadEnd>
+    ensures within { IfOk result (λ bytes. length bytes.items ≤ the_most_bytes asked) }
+    ensures bytes { IfOk result (λ bytes. IfSome (input_told asked (S.remaining source.old)) (λ all. bytes.items ≡ all)) }
+    ensures end { OnOk result (HasInput asked → IsAtEnd (S.remaining source.new)) }
+    ensures fault { result ≡ Err ReadEnd.Fault → HasInput asked × Rose (S.faults source.old) (S.faults source.new) }
+    ensures large { result ≡ Err ReadEnd.TooLarge
+        → IfSome (input_told asked (S.remaining source.old)) (λ all. the_most_bytes asked < length all) }
+    ensures unread { (HasInput asked → ⊥) → source.new ≡ source.old }
+{
+    match asked {
+        Asked::Load { .. } => Ok(Vec::new(alloc)),
+        Asked::Play { .. } | Asked::Step { .. } | Asked::Check => {
+            read_all(alloc, source, most_bytes(asked))
+        }
+    }
+}
+
 /// What is due for these words and this source.
 fn due_for<T: Threads, S: Source, G: Gate>(
     threads: &T,
@@ -175,15 +200,16 @@ fn due_for<T: Threads, S: Source, G: Gate>(
 ) -> Due
     ensures due { IsDue words.now (S.remaining source.old) (Rose (S.faults source.old) (S.faults source.new))
         result.cause result.journal.items result.text.items result.cluster }
-    ensures unread { AsksNothing words.now → source.new ≡ source.old }
-    ensures whole { result.cause ≡ Cause.Done → IsAtEnd (S.remaining source.new) }
+    ensures unread { AskToReadNothing words.now → source.new ≡ source.old }
+    ensures whole { (asked : Asked) → Asks words.now asked → HasInput asked → result.cause ≡ Cause.Done
+        → IsAtEnd (S.remaining source.new) }
 {
     let asked = match asked_by(alloc, words) {
         Ok(Some(asked)) => asked,
         Ok(None) => return line_due(alloc, Cause::Usage),
         Err(_) => return line_due(alloc, Cause::OutOfMemory),
     };
-    match read_all(alloc, source, most_bytes(asked)) {
+    match input_of(alloc, asked, source) {
         Ok(bytes) => due_to_input(threads, alloc, asked, bytes, gate),
         Err(ReadEnd::Fault) => line_due(alloc, Cause::ReadFault),
         Err(ReadEnd::TooLarge) => line_due(alloc, Cause::TooLarge),
@@ -194,7 +220,8 @@ fn due_for<T: Threads, S: Source, G: Gate>(
 /// Does what the words ask for. `play` plays the script that the source gives, and writes the report of the ring's last
 /// state to the sink; `step` tries the events of the step file that it gives, one by one, and writes a line for each that
 /// is refused, and then the report; with `--journal` the journal follows. `check` judges the journal that it gives, and
-/// writes the report of the state that it leaves. The whole text stands before its first byte is written. The cluster runs
+/// writes the report of the state that it leaves. `load` reads nothing: it plays the load script of its size and seed, and
+/// writes the summary of the ring's last state. The whole text stands before its first byte is written. The cluster runs
 /// its rounds with the thread handle and the gate.
 ///
 /// What has happened is a run of the ring, in which its laws hold after every event. So every confirmed, unacknowledged
@@ -216,35 +243,39 @@ pub fn ring_call<T: Threads, S: Source, K: Sink, G: Gate>(
         (Gains K.may_lose_track (K.contents sink.old) (K.contents sink.new))
         (Rose (K.faults sink.old) (K.faults sink.new)) result }
 
-    // Refused words leave the source unread, and what was done was read to its end.
-    ensures unread { AsksNothing words.now → source.new ≡ source.old }
-    ensures whole { result.cause ≡ Cause.Done → IsAtEnd (S.remaining source.new) }
+    // Refused words, and a command without input, leave the source unread; and what was done was read to its end.
+    ensures unread { AskToReadNothing words.now → source.new ≡ source.old }
+    ensures whole { (asked : Asked) → Asks words.now asked → HasInput asked → result.cause ≡ Cause.Done
+        → IsAtEnd (S.remaining source.new) }
 
     // Each cause, exactly.
     ensures usage_only { result.cause ≡ Cause.Usage → AsksNothing words.now }
     ensures usage { AsksNothing words.now → IsUnlessFailed result.cause Cause.Usage }
-    ensures read_fault_only { result.cause ≡ Cause.ReadFault → Rose (S.faults source.old) (S.faults source.new) }
+    ensures read_fault_only { result.cause ≡ Cause.ReadFault
+        → AskToRead words.now × Rose (S.faults source.old) (S.faults source.new) }
     ensures write_fault_only { result.cause ≡ Cause.WriteFault → Rose (K.faults sink.old) (K.faults sink.new) }
     ensures too_large_only { result.cause ≡ Cause.TooLarge → IsAskedTooMuch words.now (S.remaining source.old) }
-    ensures too_large { (asked : Asked) (all : List ℕ) → Asks words.now asked → S.remaining source.old ≡ Some all
+    ensures too_large { (asked : Asked) (all : List ℕ) → Asks words.now asked
+        → input_told asked (S.remaining source.old) ≡ Some all
         → IsTooLarge asked all
-        → (Rose (S.faults source.old) (S.faults source.new) → ⊥) → IsUnlessFailed result.cause Cause.TooLarge }
+        → (HasInput asked → Rose (S.faults source.old) (S.faults source.new) → ⊥) → IsUnlessFailed result.cause Cause.TooLarge }
     ensures script_only { (line kind : ℕ) → result.cause ≡ Cause.Script line kind
         → IsRefused words.now (S.remaining source.old) (Cause.Script line kind) }
     ensures illegal_only { (line code : ℕ) → result.cause ≡ Cause.Illegal line code
         → IsRefused words.now (S.remaining source.old) (Cause.Illegal line code) }
     ensures unreadable_only { (line kind : ℕ) → result.cause ≡ Cause.Unreadable line kind
         → IsRefused words.now (S.remaining source.old) (Cause.Unreadable line kind) }
-    ensures refused { (asked : Asked) (all : List ℕ) (cause : Cause) → Asks words.now asked → S.remaining source.old
-        ≡ Some all → IsWithin asked all
+    ensures refused { (asked : Asked) (all : List ℕ) (cause : Cause) → Asks words.now asked
+        → input_told asked (S.remaining source.old) ≡ Some all → IsWithin asked all
         → IsRefusedFor asked all cause
-        → (Rose (S.faults source.old) (S.faults source.new) → ⊥) → IsUnlessFailed result.cause cause }
+        → (HasInput asked → Rose (S.faults source.old) (S.faults source.new) → ⊥) → IsUnlessFailed result.cause cause }
 
     // With words and input in the grammar and within the limits, and no fault, it is done; or a journal isn't legal.
-    ensures complete { (asked : Asked) (all : List ℕ) → Asks words.now asked → S.remaining source.old ≡ Some all
+    ensures complete { (asked : Asked) (all : List ℕ) → Asks words.now asked
+        → input_told asked (S.remaining source.old) ≡ Some all
         → IsWithin asked all
         → IsInGrammar asked all
-        → (Rose (S.faults source.old) (S.faults source.new) → ⊥) → (Rose (K.faults sink.old) (K.faults sink.new) → ⊥)
+        → (HasInput asked → Rose (S.faults source.old) (S.faults source.new) → ⊥) → (Rose (K.faults sink.old) (K.faults sink.new) → ⊥)
         → IsComplete asked result.cause }
 {
     let due = due_for(threads, alloc, words, source, gate);

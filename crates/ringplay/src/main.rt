@@ -15,6 +15,7 @@ mod keep;
 mod play;
 mod report;
 mod step;
+mod summing;
 #[cfg(test)]
 mod tests;
 mod word;

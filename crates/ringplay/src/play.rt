@@ -1,17 +1,22 @@
 //! Playing a script.
 ghost use Rattle.std.specs.Prelude.{◌≡◌, ◌∷◌, ◌++◌, [], Some, All, IfOk, OnOk};
+ghost use Rattle.group_view.specs.Change.{AreOpeningNames};
+ghost use Rattle.ring_script.specs.declared.text.Text.{Text};
+ghost use Rattle.ring_script.specs.Load.{IsLoad, IsLoadable};
 ghost use Rattle.ring_script.specs.Reading.{IsPlayable};
 ghost use Rattle.ring_cluster.specs.Plays.{PlaysSoFar};
-ghost use Rattle.ringplay.specs.Performed.{SameRing, HasTurns, IsPlayedBy, Tells, commands_on};
+ghost use Rattle.ringplay.specs.Due.{HasPlayed};
+ghost use Rattle.ringplay.specs.Performed.{SameRing, HasTurns, IsPlayedBy, Tells, commands_on, reported, summed};
 
 use crate::keep::with_journal;
 use crate::report::report;
+use crate::summing::summary;
 use ring_cluster::Cluster;
 use ring_io::Gate;
 use ring_journal::a_run_is_within;
-use ring_names::OutOfMemory;
+use ring_names::{CreditSpec, Name, OutOfMemory};
 use ring_rules::Event;
-use ring_script::{Command, Script};
+use ring_script::{Command, Script, load_script};
 use std::alloc::Global;
 use std::thread::Threads;
 
@@ -34,7 +39,7 @@ pub(crate) fn play<T: Threads, G: Gate>(
 ) -> Result<Played, OutOfMemory>
     requires { IsPlayable script }
     ensures { IfOk result (λ played. Tells kept script.credit script.members played.journal.items
-        (λ report. IsPlayedBy script played.journal.items report played.cluster) played.text.items) }
+        (λ report. IsPlayedBy reported script played.journal.items report played.cluster) played.text.items) }
 {
     let Script {
         members,
@@ -44,10 +49,7 @@ pub(crate) fn play<T: Threads, G: Gate>(
     let names = members.into_vec();
     let lines = lines.into_vec();
     let heard = names.len().saturating_mul(lines.len());
-    let mut cluster = Cluster::opening(alloc, &names, credit)?;
-    perform(threads, &mut cluster, lines, gate)?;
-    cluster.settle(threads, gate)?;
-    cluster.is_going();
+    let cluster = play_lines(threads, alloc, &names, credit, lines, gate)?;
     let journal = cluster.journal()?;
     a_run_is_within();
     let report = report(alloc, &cluster, heard)?;
@@ -57,6 +59,56 @@ pub(crate) fn play<T: Threads, G: Gate>(
         text,
         cluster: Some(cluster),
     })
+}
+
+/// Plays the load script of so many blocks and this seed. The summary is told of it.
+pub(crate) fn load<T: Threads, G: Gate>(
+    threads: &T,
+    alloc: Global,
+    blocks: u32,
+    seed: u32,
+    gate: &G,
+) -> Result<Played, OutOfMemory>
+    requires { IsLoadable blocks seed }
+    ensures { IfOk result (λ played. (script : Text Command) × IsLoad blocks seed script
+        × IsPlayedBy (summed blocks) script played.journal.items played.text.items played.cluster) }
+{
+    let script = load_script(alloc, blocks, seed)?;
+    let Script {
+        members,
+        credit,
+        lines,
+    } = script;
+    let names = members.into_vec();
+    let cluster = play_lines(threads, alloc, &names, credit, lines.into_vec(), gate)?;
+    let journal = cluster.journal()?;
+    let text = summary(alloc, &cluster, blocks)?;
+    Ok(Played {
+        journal,
+        text,
+        cluster: Some(cluster),
+    })
+}
+
+/// Plays what stands on the lines in a ring that opens with these members and this credit: the commands in order, and at
+/// their end the ring settles once more.
+fn play_lines<T: Threads, G: Gate>(
+    threads: &T,
+    alloc: Global,
+    names: &[Name],
+    credit: CreditSpec,
+    lines: Vec<(u32, Command)>,
+    gate: &G,
+) -> Result<Cluster, OutOfMemory>
+    requires opens { AreOpeningNames names.now }
+    requires turns { All (λ line. HasTurns line.1) lines.items }
+    ensures { IfOk result (HasPlayed credit names.now (commands_on lines.items ++ Command.Settle ∷ [])) }
+{
+    let mut cluster = Cluster::opening(alloc, names, credit)?;
+    perform(threads, &mut cluster, lines, gate)?;
+    cluster.settle(threads, gate)?;
+    cluster.is_going();
+    Ok(cluster)
 }
 
 /// Performs the commands on the lines, in order.

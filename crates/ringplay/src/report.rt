@@ -10,7 +10,7 @@ ghost use Rattle.gm_member.specs.Shown.{held_of};
 ghost use Rattle.ring_cluster.specs.Seen.{state_of};
 ghost use Rattle.ring_cluster.specs.Holds.{HoldsOf};
 ghost use Rattle.ring_cluster.specs.Published.{told_by, told_with, told_in, told_of_each};
-ghost use Rattle.ring_report.specs.Report.{report_of, cast_line, heard_from, heard_lines, while_up, lines_of_member};
+ghost use Rattle.ring_report.specs.Report.{report_of, cast_line, heard_from, heard_lines, while_up, lines_of_member, stands_at};
 ghost use Rattle.ring_report.specs.Lent.{lent_in};
 
 use queue_mirror::Mirror;
@@ -90,7 +90,7 @@ fn mirror_at(cluster: &Cluster, place: usize) -> &Mirror
 }
 
 /// How much it has published, and how much of that has come round to it, by its book.
-fn counts_at(cluster: &Cluster, place: usize) -> Counts
+pub(crate) fn counts_at(cluster: &Cluster, place: usize) -> Counts
     requires { place + 1 < size (state_of cluster.now) }
     ensures { result ≡ counts_of (place + 1) (at_id (state_of cluster.now) (place + 1)) }
 {
@@ -104,6 +104,15 @@ fn counts_at(cluster: &Cluster, place: usize) -> Counts
         publishes: totals.publishes,
         publishes_confirmed: totals.publishes_confirmed,
     }
+}
+
+/// Where it stands.
+pub(crate) fn state_at(cluster: &Cluster, place: usize) -> MemberState
+    requires { place + 1 < size (state_of cluster.now) }
+    ensures { result ≡ stands_at (state_of cluster.now) (place + 1) }
+{
+    let missing = mirror_at(cluster, place).missing();
+    stands(missing, member_at(cluster, place).phase())
 }
 
 /// Where a member of this phase stands whose mirror lacks so many messages.
@@ -134,12 +143,11 @@ fn push_member(
 {
     let id = id_at(cluster, place);
     let member = member_at(cluster, place);
-    let mirror = mirror_at(cluster, place);
-    let state = stands(mirror.missing(), member.phase());
+    let state = state_at(cluster, place);
     push_state(alloc, out, member.name(), id, state, cluster.view())?;
     push_counts(alloc, out, &counts_at(cluster, place))?;
     push_heard(out, cluster, published, id, state)?;
-    push_items(alloc, out, state, mirror)?;
+    push_items(alloc, out, state, mirror_at(cluster, place))?;
     push_refusals(alloc, out, refusals, member.name())?;
     Ok(())
 }

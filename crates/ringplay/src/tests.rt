@@ -1705,6 +1705,11 @@ load 5 x
 members a
 => Usage, status 1
 usage
+==== other words
+load 5 x
+members a
+=> Usage, status 1
+usage
 ==== an empty input
 play
 => Script { line: 1, kind: 61 }, status 2
@@ -1821,6 +1826,29 @@ cast rabbit hello
 cast fox hello
 => Script { line: 3, kind: 57 }, status 2
 script 3 57
+";
+
+/// What is written of load scripts. Nothing of the input is read.
+const LOADS: &str = "==== the smallest
+load 2 0
+members a
+=> Done, status 0
+blocks 2
+members 3 up 2
+casts 2 confirmed 2
+publishes 4 confirmed 4
+master m1 term 2 view 3
+ready 2 unacked 0
+==== four members
+load 3000 7
+
+=> Done, status 0
+blocks 3000
+members 4 up 3
+casts 3000 confirmed 3000
+publishes 6000 confirmed 6000
+master m1 term 2 view 3
+ready 3000 unacked 0
 ";
 
 /// What is written of journals, and with them.
@@ -2008,6 +2036,11 @@ fn takes_steps(rt: HostRuntime) -> Result<(), Fail> {
 }
 
 #[test]
+fn plays_load_scripts(rt: HostRuntime) -> Result<(), Fail> {
+    expect(&rt, LOADS, false)
+}
+
+#[test]
 fn judges_journals(rt: HostRuntime) -> Result<(), Fail> {
     expect(&rt, JOURNALS, false)
 }
@@ -2183,6 +2216,19 @@ fn is_unread(called: &Called) -> bool {
 const THREE: &str =
     "members a b c\ncast a a1\ncast b b1\ncast a a2\ncast b b2\ncast a a3\nsettle\n";
 
+/// A source that would fail is no fault to what reads nothing.
+#[test]
+fn loads_beside_a_source_that_fails(rt: HostRuntime) -> Result<(), Fail> {
+    let streams = Streams {
+        most: 10,
+        read_fails: 1,
+        write_fails: 0,
+    };
+    let called = call(&rt, "load 2 0", Vec::new(rt.alloc()), streams)?;
+    assert!(rt; called.ended.status == 0 && is_whole(&called));
+    Ok(())
+}
+
 #[test]
 fn ends_at_a_fault_of_the_source(rt: HostRuntime) -> Result<(), Fail> {
     for (word, input) in [("play", THREE), ("step", "members a\ncast a hi\n")] {
@@ -2211,6 +2257,10 @@ const NOTHING: &str =
 const HEARD: &str =
     "ring view=1 term=1 master=a\nmember a up synced\ncasts 1 confirmed 1\npublishes 0 confirmed 0\nheard a hi\n";
 
+/// The summary of the smallest load script.
+const LOADED: &str =
+    "blocks 2\nmembers 3 up 2\ncasts 2 confirmed 2\npublishes 4 confirmed 4\nmaster m1 term 2 view 3\nready 2 unacked 0\n";
+
 /// Whether a call ends by a fault of its sink, and has written so many bytes of that report.
 fn is_unwritten(called: &Called, report: &str, written: u64) -> bool {
     let Called { ended, sink } = called;
@@ -2227,6 +2277,7 @@ fn ends_at_a_fault_of_the_sink(rt: HostRuntime) -> Result<(), Fail> {
         ("play", "members a\ncast a hi\n", HEARD),
         ("step", "members a\ncast a hi\nput a\ntake a\n", HEARD),
         ("check", JOURNAL, HEARD),
+        ("load 2 0", "", LOADED),
     ] {
         for write_fails in 1..=20 {
             let streams = Streams {

@@ -1,5 +1,6 @@
 //! The words of the command line.
 ghost use Rattle.std.specs.Prelude.{◌≡◌, None, map, IfOk, IfSome};
+ghost use Rattle.ring_words.specs.Words.{IsInRange};
 ghost use Rattle.ringplay.specs.Words.{Asks, AsksNothing};
 
 use ring_names::OutOfMemory;
@@ -40,6 +41,7 @@ impl Word {
 /// What the words ask for, if they ask for something.
 pub(crate) fn asked_by(alloc: Global, words: &[Word]) -> Result<Option<Asked>, OutOfMemory>
     ensures asks { IfOk result (λ answer. IfSome answer (Asks words.now)) }
+    ensures range { IfOk result (λ answer. IfSome answer IsInRange) }
     ensures nothing { IfOk result (λ answer. answer ≡ None → AsksNothing words.now) }
 {
     let texts = texts_of(alloc, words)?;

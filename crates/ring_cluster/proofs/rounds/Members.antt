@@ -99,7 +99,8 @@ event_at_place w e x some lt is =
 
 -- ---- who does or refuses a task
 
-up_may : (f : Phase) (later : Option Reason) → f ≡ Up → later ≡ None → or_else (refuse_if (is_stopped f) reason.Stopped) (or_else (refuse_if (is_waiting f) reason.Waiting) later) ≡ None
+-- who is up may, where nothing else speaks against it
+pub up_may : (f : Phase) (later : Option Reason) → f ≡ Up → later ≡ None → or_else (refuse_if (is_stopped f) reason.Stopped) (or_else (refuse_if (is_waiting f) reason.Waiting) later) ≡ None
 up_may Waiting later e h = cc
 up_may Up later e h = h
 up_may Stopped later e h = cc

@@ -27,7 +27,7 @@ use Rattle.ring_rules.specs.Event.{asked_of, event_of, id_of, is_stopped, is_pas
 use Rattle.ring_rules.proofs.events.Found.{refused_there}
 use Rattle.ring_rules.proofs.events.Kinds.{event_by}
 use Rattle.ring_cluster.specs.Plays.{is_stop, takes_up}
-use Rattle.ring_cluster.proofs.rounds.Members.{admit_told}
+use Rattle.ring_cluster.proofs.rounds.Members.{admit_told, up_may}
 
 -- ---- by where a member stands
 
@@ -105,11 +105,6 @@ module _ (w : World) (x : ℕ) where
   by_client (client.Requeue by at) r takes pass e =
       by_answer (client.Requeue by at) _ r refl takes pass (λ h. held_told (op.Requeue at) (list_any (is_unacked_at at.0) (member_at w x).mirror.queue.items) (list_any (is_at at.0) (member_at w x).mirror.queue.items) r h) e
 
-  start_up : (f : Phase) (later : Option Reason) → f ≡ Up → later ≡ None → or_else (refuse_if (is_stopped f) reason.Stopped) (or_else (refuse_if (is_waiting f) reason.Waiting) later) ≡ None
-  start_up Waiting later e h = cc
-  start_up Up later e h = h
-  start_up Stopped later e h = cc
-
   -- and so it may
   pub passing_starts : (t : Client) (r : Reason) → id_of w (asked_of t) ≡ Some x → id_of w (member_at w x).name ≡ Some x → takes_up (member_at w x).phase t ≡ true → is_passing r ≡ true → refusal w (event_of t) ≡ Some r
       → ((member_at w x).phase ≡ Up) × (refusal w (Start (member_at w x).name) ≡ None)
@@ -117,5 +112,5 @@ module _ (w : World) (x : ℕ) where
       let may : MayStart = by_client t r takes pass (sym (refused_there w x (event_of t) (ap (id_of w) (event_by t) ∙ there)) ∙ e) in (
         may.0,
         refused_there w x (Start (member_at w x).name) named
-            ∙ start_up (member_at w x).phase _ may.0 (ap (λ o. op_refusal (or_refused o (Ok (op.Start (length (member_at w x).mirror.queue.items))))) may.1),
+            ∙ up_may (member_at w x).phase _ may.0 (ap (λ o. op_refusal (or_refused o (Ok (op.Start (length (member_at w x).mirror.queue.items))))) may.1),
       )

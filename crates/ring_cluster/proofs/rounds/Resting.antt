@@ -16,7 +16,8 @@ use Rattle.ring_rules.specs.Quiet.{IsAtRest, RingRests, IsQuiet}
 use Rattle.ring_rules.specs.Settling.{is_repair, stale_one, owes_telling, NothingLeft}
 use Rattle.ring_rules.proofs.events.WhatRefuses.{MayMark}
 use Rattle.ring_rules.proofs.events.Cases.{may_mark}
-use Rattle.ring_rules.proofs.events.Refusals.{none_of, id_within}
+use Rattle.ring_rules.specs.Refusal.{refuse_if, or_else}
+use Rattle.ring_rules.proofs.events.Refusals.{none_of, id_within, runs_from}
 use Rattle.ring_rules.proofs.rests.Rests.{entry_at}
 use Rattle.ring_rules.proofs.runs.Published.{found_name}
 use Rattle.ring_rules.proofs.queue.Known.{run_idle_is_quiet}
@@ -153,12 +154,6 @@ rests c g h = worked_rests c g (all_rest_steps c g h) (all_rest_marks c g h) (al
 
 -- ---- no event of repair is enabled
 
--- who doesn't stop runs
-goes_on : (f : Phase) → is_stopped f ≡ false → runs_phase f ≡ true
-goes_on Waiting e = refl
-goes_on Up e = refl
-goes_on Stopped e = absurd (false≢true (sym e))
-
 -- both hold
 both_true : (a b : Bool) → (a && b) ≡ true → b ≡ true
 both_true true b e = e
@@ -199,28 +194,32 @@ module _ (c : Seen) (g : IsGoing c) (h : AllRest (state_of c)) where
   steps_none : (s : LinkStep) (by : List ℕ) (x : ℕ) → id_of w by ≡ Some x → runs w x ≡ true → refusal w (step_event s by) ≡ None → ⊥
   steps_none s by x is r none = (rests_there c x g h r).0 s (subst (λ n. refusal w (step_event s n) ≡ None) (named_is by x is) none)
 
+  -- who isn't refused for having stopped runs
+  running : (x : ℕ) (later : Option Reason) → or_else (refuse_if (is_stopped (member_at w x).phase) reason.Stopped) later ≡ None → runs w x ≡ true
+  running x later k = runs_from _ (none_of (is_stopped (member_at w x).phase) reason.Stopped later k).0
+
   none_at : (e : Event) (x : ℕ) → is_repair w e ≡ true → refusal w e ≡ None → id_of w (by_of e) ≡ Some x → refused_at w e x ≡ None → ⊥
-  none_at (Put by) x is none there k = steps_none step.Put by x there (goes_on _ (none_of (is_stopped (member_at w x).phase) reason.Stopped _ k).0) none
-  none_at (Take by) x is none there k = steps_none step.Take by x there (goes_on _ (none_of (is_stopped (member_at w x).phase) reason.Stopped _ k).0) none
-  none_at (TakeEnd by) x is none there k = steps_none step.TakeEnd by x there (goes_on _ (none_of (is_stopped (member_at w x).phase) reason.Stopped _ k).0) none
-  none_at (Gain by) x is none there k = steps_none step.Gain by x there (goes_on _ (none_of (is_stopped (member_at w x).phase) reason.Stopped _ k).0) none
-  none_at (Pick by) x is none there k = steps_none step.Pick by x there (goes_on _ (none_of (is_stopped (member_at w x).phase) reason.Stopped _ k).0) none
+  none_at (Put by) x is none there k = steps_none step.Put by x there (running x _ k) none
+  none_at (Take by) x is none there k = steps_none step.Take by x there (running x _ k) none
+  none_at (TakeEnd by) x is none there k = steps_none step.TakeEnd by x there (running x _ k) none
+  none_at (Gain by) x is none there k = steps_none step.Gain by x there (running x _ k) none
+  none_at (Pick by) x is none there k = steps_none step.Pick by x there (running x _ k) none
   none_at (Start by) x is none there k =
-      let r : runs w x ≡ true = goes_on _ (none_of (is_stopped (member_at w x).phase) reason.Stopped _ k).0 in
+      let r : runs w x ≡ true = running x _ k in
       ((rests_there c x g h r).1 (all_up c g h x r)).0 (subst (λ n. refusal w (Start n) ≡ None) (named_is by x there) none)
   none_at (Synced by) x is none there k =
-      let r : runs w x ≡ true = goes_on _ (none_of (is_stopped (member_at w x).phase) reason.Stopped _ k).0 in
+      let r : runs w x ≡ true = running x _ k in
       ((rests_there c x g h r).1 (all_up c g h x r)).1.synced (subst (λ n. refusal w (Synced n) ≡ None) (named_is by x there) none)
   none_at (Depth by) x is none there k =
-      let r : runs w x ≡ true = goes_on _ (none_of (is_stopped (member_at w x).phase) reason.Stopped _ k).0 in
+      let r : runs w x ≡ true = running x _ k in
       ((rests_there c x g h r).1 (all_up c g h x r)).1.tells (sym (ap (owes_telling w) there) ∙ is) (subst (λ n. refusal w (Depth n) ≡ None) (named_is by x there) none)
   none_at (Refresh by version) x is none there k =
-      let r : runs w x ≡ true = goes_on _ (none_of (is_stopped (member_at w x).phase) reason.Stopped _ k).0 in
+      let r : runs w x ≡ true = running x _ k in
       false≢true (sym ((rests_there c x g h r).1 (all_up c g h x r)).1.fresh ∙ sym (ap (stale_one w) there) ∙ both_true (nat_eq version (newest w)) _ is)
   none_at (Mark by dead) x is none there k = by_id (id_of w dead) refl (none_of (is_waiting (member_at w x).phase) reason.Waiting _ (none_of (is_stopped (member_at w x).phase) reason.Stopped _ k).1).1
     where
       r : runs w x ≡ true
-      r = goes_on _ (none_of (is_stopped (member_at w x).phase) reason.Stopped _ k).0
+      r = running x _ k
 
       by_id : (o : Option ℕ) → id_of w dead ≡ o → of_member o (mark_refusal w x) ≡ None → ⊥
       by_id None e m = cc
@@ -228,7 +227,7 @@ module _ (c : Seen) (g : IsGoing c) (h : AllRest (state_of c)) where
   none_at (Erase by origin) x is none there k = by_id (id_of w origin) refl (none_of (is_waiting (member_at w x).phase) reason.Waiting _ (none_of (is_stopped (member_at w x).phase) reason.Stopped _ k).1).1
     where
       r : runs w x ≡ true
-      r = goes_on _ (none_of (is_stopped (member_at w x).phase) reason.Stopped _ k).0
+      r = running x _ k
 
       by_id : (o : Option ℕ) → id_of w origin ≡ o → of_member o (erase_refusal w x) ≡ None → ⊥
       by_id None e m = cc

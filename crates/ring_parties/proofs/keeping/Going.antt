@@ -26,6 +26,7 @@ use Rattle.ring_rules.specs.Event.{message_of, queue_message, op_as, op_done, sa
 use Rattle.ring_rules.proofs.events.Composed.{end_composed, refresh_composed}
 use Rattle.ring_rules.proofs.events.Enabled.{take_effect}
 use Rattle.ring_rules.proofs.events.Leaves.{member_leaves}
+use Rattle.ring_rules.proofs.queue.Likes.{not_both}
 use Rattle.gm_member.specs.Packets.{PacketById}
 use Rattle.gm_member.specs.Held.{Held, Incoming, at_some}
 use Rattle.gm_member.specs.News.{news_of}
@@ -261,14 +262,9 @@ take_changed w x s Up f up runs some lt current has version =
     let state : at_found (member_at w x).current w (taken_by (member_at w x).phase w x) ≡ take_from w x s = take_effect w x s (member_at w x).current (member_at w x).phase current up in
     let news : ops_taken (news_of (held_in w x) (next_of w s)) ≡ ring_news (size w) (is_owned (view_in w (member_at w x).version) x (link_at w s).sender) (log_of w) (member_at w x) (oldest (link_at w s)) =
     ap ops_taken (news_are w x s (next_of w s) f t (record { view = refl; lines = refl }) ∙ ap (λ c. taken_in w c x) current)
-    ∙ brings w x s f (λ waits. up_or_waiting (member_at w x).phase up waits) in
+    ∙ brings w x s f (λ waits. not_both (member_at w x).phase up waits) in
     subst (λ v. Changed w v x (with_ops w x (round_of v x) (ops_taken (news_of (held_in w x) (next_of w s))))) (sym state)
     (subst (λ os. Changed w (take_from w x s) x (with_ops w x (round_of (take_from w x s) x) os)) (sym news) (written_changed w (take_from w x s) x (taker w x s) lt refl))
-  where
-    up_or_waiting : (k : Phase) → k ≡ Up → k ≡ Waiting → ⊥
-    up_or_waiting Waiting a b = cc
-    up_or_waiting Up a b = cc
-    up_or_waiting Stopped a b = cc
 take_changed w x s Stopped f rests runs some lt current has version = absurd (false≢true (sym runs))
 
 -- and its party keeps that

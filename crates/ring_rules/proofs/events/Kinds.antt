@@ -1,7 +1,6 @@
 -- By whom an event happens and of which kind it is: one that a client asks, and a step. What a kind tells of its event, and
 -- what is read of a kind.
-use Rattle.std.proofs.Common.{◌≡◌, ℕ, true, List, Some, None, refl, sym, ap, subst}
-use Rattle.std.proofs.lemmas.Bool.{false≢true}
+use Rattle.std.proofs.Common.{◌≡◌, ℕ, List, Some, refl, sym, ap, subst}
 use Rattle.ring_rules.specs.declared.event.Event.{Event}
 use Rattle.ring_rules.specs.declared.event.Event.TheVariants.{Admit, Refuse}
 use Rattle.ring_rules.specs.declared.event.Client.{Client}
@@ -11,8 +10,8 @@ use Rattle.ring_rules.specs.declared.kind.LinkStep.TheVariants as step
 use Rattle.ring_rules.specs.declared.kind.ViewChange.TheVariants as change
 use Rattle.ring_rules.specs.declared.kind.Kind.{Kind as ShownKind}
 use Rattle.ring_rules.specs.declared.kind.Kind.TheVariants as shown
-use Rattle.ring_rules.specs.Kind.{Saying, Own, OfQueue, Kind, Says, Steps, Changes, Stops, Reads, Tells, kind_of, own_body_of, shown_kind, step_event}
-use Rattle.ring_rules.specs.Event.{event_of, asked_of, by_of, is_asked_multicast, is_multicast_kind, is_multicast}
+use Rattle.ring_rules.specs.Kind.{Saying, Own, Kind, Says, Steps, Changes, Stops, Reads, Tells, kind_of, own_body_of, shown_kind, step_event}
+use Rattle.ring_rules.specs.Event.{event_of, asked_of, by_of}
 
 -- ---- what a client asks
 
@@ -20,11 +19,6 @@ use Rattle.ring_rules.specs.Event.{event_of, asked_of, by_of, is_asked_multicast
 pub event_by : (c : Client) → by_of (event_of c) ≡ asked_of c
 event_by (client.Cast by body) = refl
 event_by c = refl
-
--- what is of the ring alone is done by such an event
-pub event_multicast : (c : Client) → is_multicast (event_of c) ≡ is_asked_multicast c
-event_multicast (client.Cast by body) = refl
-event_multicast c = refl
 
 -- ---- a step on the links
 
@@ -44,10 +38,6 @@ step_kind step.TakeEnd by = refl
 step_kind step.Gain by = refl
 step_kind step.Put by = refl
 
--- it is of the ring alone
-pub step_multicast : (s : LinkStep) (by : List ℕ) → is_multicast (step_event s by) ≡ true
-step_multicast s by = ap is_multicast_kind (step_kind s by)
-
 -- ---- what a kind tells of its event
 
 -- an event of the kind of an admission is one
@@ -66,12 +56,6 @@ only_refuses e s other = cc
 pub own_says : (k : Kind) (body : List ℕ) → own_body_of k ≡ Some body → k ≡ Says (Own body)
 own_says (Says (Own other)) body h = let same : other ≡ body = cc in ap (λ b. Says (Own b)) same
 own_says k body h = cc
-
--- what says something, and is none of the queue, has one
-pub says_own : (k : Kind) → shown_kind k ≡ shown.Says → is_multicast_kind k ≡ true → own_body_of k ≡ None → ⊥
-says_own (Says (Own body)) s m h = cc
-says_own (Says (OfQueue q)) s m h = absurd (false≢true m)
-says_own k s m h = cc
 
 -- ---- what is read of a kind
 

@@ -84,6 +84,12 @@ links_quiet w ls h = record {
 pub link_quiet : (w : World) (s : ℕ) (l : Link) → l.packets ≡ (link_at w s).packets → IsQuiet w (with_link w s l)
 link_quiet w s l same = links_quiet w (set w.links s l) (λ q t _ _. link_leaves (λ _ a b. oldest b ≡ oldest a) w s l (ap (λ ks. get_or ks 0 no_packet) same) (λ _. refl) t)
 
+-- who is up doesn't wait
+pub not_both : (f : Phase) → f ≡ Up → f ≡ Waiting → ⊥
+not_both Waiting a b = cc
+not_both Up a b = cc
+not_both Stopped a b = cc
+
 -- a member that is up, with the same rows and log
 pub member_quiet : (w : World) (x : ℕ) (y : Member) → x < size w → (member_at w x).phase ≡ Up → y.phase ≡ Up → y.rows ≡ (member_at w x).rows → y.log ≡ (member_at w x).log → y.mirror ≡ (member_at w x).mirror → y.whole ≡ (member_at w x).whole → IsQuiet w (with_member w x y)
 member_quiet w x y lt up f rs l mi wh = record {
@@ -102,11 +108,6 @@ member_quiet w x y lt up f rs l mi wh = record {
   views = refl;
 }
   where
-    not_both : (f : Phase) → f ≡ Up → f ≡ Waiting → ⊥
-    not_both Waiting a b = cc
-    not_both Up a b = cc
-    not_both Stopped a b = cc
-
     phase : (q : ℕ) → (member_at (with_member w x y) q).phase ≡ (member_at w q).phase
     phase q = member_leaves (λ _ a b. b.phase ≡ a.phase) w x y (f ∙ sym up) (λ _. refl) q
 
@@ -176,11 +177,6 @@ refreshed_quiet w x v k = (refresh_composed (OnWay w x) w x v
           let a = member_leaves (λ _ a b. b.phase ≡ Waiting → b.current ≡ Some s → (a.phase ≡ Waiting) × (a.current ≡ Some s)) w x (moved_to w x v) (λ m n. absurd (not_both (member_at w x).phase k.up m)) (λ _ m n. (m, n)) q e2 c in
           k.there q s a.0 a.1;
     })).quiet
-  where
-    not_both : (f : Phase) → f ≡ Up → f ≡ Waiting → ⊥
-    not_both Waiting a b = cc
-    not_both Up a b = cc
-    not_both Stopped a b = cc
 
 -- ---- lists
 

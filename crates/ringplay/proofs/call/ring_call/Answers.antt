@@ -24,7 +24,7 @@ returns-clause-read_fault_only g c = λ is.
     let due = c.due_for-due.result in
     (ended_why c.args.words.now (g.S.Source.remaining c.args.source.now) (Rose (g.S.Source.faults c.args.source.now) (g.S.Source.faults c.due_for-due.new.source)) due.journal.items due.text.items due.cluster
     due.cause c.due_for-due.ensures.due (Gains g.K.Sink.may_lose_track (g.K.Sink.contents c.args.sink.now) (g.K.Sink.contents c.written.new.sink)) (Rose (g.K.Sink.faults c.args.sink.now) (g.K.Sink.faults c.written.new.sink))
-    c.written.result c.written.ensures.written causes.ReadFault is (λ e. cc) (λ e. cc)).1
+    c.written.result c.written.ensures.written causes.ReadFault is (λ e. cc) (λ e. cc))
 
 pub returns-clause-too_large_only : goal.returns-clause-too_large_only
 returns-clause-too_large_only g c = λ is.

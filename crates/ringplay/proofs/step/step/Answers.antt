@@ -33,7 +33,7 @@ with_journal-requires-clause-within c =
     c.in_ok-cluster.ensures.opens ∙ ap (opening_seen s.credit) (c.deref.ensures.value ∙ c.into_vec-names.ensures) in
     let of = stepped_of s.credit s.members a b (enabled_of (state_of a) c.as_slice.result.now) opens c.in_ok-try_lines.ensures.stepped in
     let ran = has_run s.credit s.members c.in_ok-journal.journal.items b of.credit of.names c.in_ok-journal.ensures c.is_going.ensures in
-    subst (All IsWithin) (sym c.deref-3.ensures.value) (c.a_run_is_within.ensures.positions s.credit s.members c.in_ok-journal.journal.items ran.are ran.run.run
+    subst (All IsWithin) (sym c.deref-3.ensures.value) (c.a_run_is_within.ensures s.credit s.members c.in_ok-journal.journal.items ran.are ran.run.run
     (stepped_journal s.credit s.members a b c.as_slice.result.now c.in_ok-journal.journal.items opens c.in_ok-try_lines.ensures.stepped
     (subst HaveNameablePositions (sym c.as_slice.ensures) c.requires.positions) c.in_ok-journal.ensures))
 
