@@ -4,6 +4,7 @@ ghost use Rattle.std.specs.List.{flat_map};
 ghost use Rattle.queue_core.specs.Shown.{item_of};
 ghost use Rattle.ring_report.specs.Report.{item_line, item_lines, told_line, while_up};
 
+use itoa::Buffer;
 use queue_core::{CopyState, Held, Queue};
 use queue_mirror::Mirror;
 use ring_names::{Body, OutOfMemory, Position};
@@ -32,8 +33,8 @@ fn push_queue(alloc: Global, out: &mut Vec<u8>, queue: &Queue) -> Result<(), Out
     ensures { OnOk result (out.new.items ≡ out.old.items ++ item_lines (queue.now).queue.items) }
 {
     let all = held_in(alloc, queue)?;
-    push_told(alloc, out, &all, false)?;
-    push_told(alloc, out, &all, true)?;
+    push_told(out, &all, false)?;
+    push_told(out, &all, true)?;
     Ok(())
 }
 
@@ -42,7 +43,7 @@ pub fn held_in<'a>(alloc: Global, queue: &'a Queue) -> Result<Vec<Held<'a>>, Out
     ensures { IfOk result (λ all. map item_of all.items ≡ (queue.now).queue.items) }
 {
     let _next = queue.next();
-    let mut all = Vec::new(alloc);
+    let mut all = Vec::with_capacity(alloc, queue.depth() as usize)?;
     let mut from = 0;
     for _place in 0..queue.depth() {
         let Some(held) = queue.item_from(Position(from)) else {
@@ -55,27 +56,17 @@ pub fn held_in<'a>(alloc: Global, queue: &'a Queue) -> Result<Vec<Held<'a>>, Out
 }
 
 /// Those that are handed out, or the others.
-fn push_told(
-    alloc: Global,
-    out: &mut Vec<u8>,
-    all: &[Held<'_>],
-    handed: bool,
-) -> Result<(), OutOfMemory>
+fn push_told(out: &mut Vec<u8>, all: &[Held<'_>], handed: bool) -> Result<(), OutOfMemory>
     ensures { OnOk result (out.new.items ≡ out.old.items ++ flat_map (told_line handed) (map item_of all.now)) }
 {
     for held in all {
-        push_item(alloc, out, held, handed)?;
+        push_item(out, held, handed)?;
     }
     Ok(())
 }
 
 /// An item among those that are handed out, or among the others.
-fn push_item(
-    alloc: Global,
-    out: &mut Vec<u8>,
-    held: &Held<'_>,
-    handed: bool,
-) -> Result<(), OutOfMemory>
+fn push_item(out: &mut Vec<u8>, held: &Held<'_>, handed: bool) -> Result<(), OutOfMemory>
     ensures { OnOk result (out.new.items ≡ out.old.items ++ told_line handed (item_of held.now)) }
 {
     let word = match (handed, held.state) {
@@ -84,21 +75,18 @@ fn push_item(
         (true, CopyState::Unacked) => "unacked",
         _ => return Ok(()),
     };
-    push_line(alloc, out, word, held.at, held.body)
+    push_line(out, word, held.at, held.body)
 }
 
-fn push_line(
-    alloc: Global,
-    out: &mut Vec<u8>,
-    word: &str,
-    at: Position,
-    body: &Body,
-) -> Result<(), OutOfMemory>
+fn push_line(out: &mut Vec<u8>, word: &str, at: Position, body: &Body) -> Result<(), OutOfMemory>
     ensures { OnOk result (out.new.items ≡ out.old.items ++ item_line word.now at.0 body.now) }
 {
-    let line = format!(in alloc; "{word} {} ", at.0)?;
-    out.extend_from_slice(line.as_bytes())?;
+    let mut digits = Buffer::new();
+    out.extend_from_slice(word.as_bytes())?;
+    out.push(b' ')?;
+    out.extend_from_slice(digits.format(at.0).as_bytes())?;
+    out.push(b' ')?;
     out.extend_from_slice(body.bytes())?;
-    out.extend_from_slice(b"\n")?;
+    out.push(b'\n')?;
     Ok(())
 }

@@ -1,10 +1,12 @@
 -- The first line of a text, cut at its line feed.
-use Rattle.std.proofs.Common.{◌≡◌, ℕ, suc, ◌+◌, ◌-◌, ◌<◌, ◌≤◌, Bool, true, false, ◌==◌, cond, not, nat_lt, List, [], ◌∷◌, Some, None, length, take, drop, refl, sym, ap, ◌∙◌, arith, length-drop}
+use Rattle.std.proofs.Common.{◌≡◌, ℕ, suc, ◌+◌, ◌-◌, ◌<◌, ◌≤◌, Bool, true, false, ◌==◌, cond, not, nat_lt, List, [], ◌∷◌, Option, Some, None, length, take, drop, refl, sym, ap, ◌∙◌, arith, length-drop}
 use Rattle.std.specs.List.{position, position_or_len, before_first, after_first}
 use Rattle.std.proofs.lemmas.Bool.Decides.{nat_tests}
 use Rattle.std.proofs.lemmas.Grind.{common_steps}
 use Rattle.std.proofs.lemmas.List.{take_all, drop_all}
-use Rattle.std.proofs.lemmas.List.Sums.{prefix_len-le-length}
+use Rattle.std.proofs.lemmas.Bool.{false_from_ne_true}
+use Rattle.std.proofs.lemmas.List.Sums.{prefix_len-le-length, position_or_len_is}
+use Rattle.memchr.specs.Find.{IsFirstByte, is_byte}
 use Rattle.ring_script.specs.Words.{lines_of}
 
 -- a line feed
@@ -18,6 +20,24 @@ found_by a n k false e f = cc
 missed_by : (a n : ℕ) (b : Bool) → nat_lt a n ≡ b → cond b (Some a) None ≡ None → n ≤ a
 missed_by a n true e f = cc
 missed_by a n false e f = grind (arith, nat_tests)
+
+placed_by : (a n k : ℕ) (b : Bool) → nat_lt a n ≡ b → a ≡ k → k < n → Some k ≡ cond b (Some a) None
+placed_by a n k true e same l = ap Some (sym same)
+placed_by a n k false e same l = absurd (grind (arith, nat_tests))
+
+unplaced_by : (a n : ℕ) (b : Bool) → nat_lt a n ≡ b → a ≡ n → None ≡ cond b (Some a) None
+unplaced_by a n true e same = absurd (grind (arith, nat_tests))
+unplaced_by a n false e same = refl
+
+-- what a search for a line feed answers is its first place
+pub feed_searched : (bs : List ℕ) (r : Option ℕ) → IsFirstByte (is_byte 10) bs r → r ≡ position (λ b. b == 10) bs
+feed_searched bs None none =
+    let end : position_or_len is_feed bs ≡ length bs = position_or_len_is is_feed bs (length bs) 0 (omega arith) (λ k l. false_from_ne_true _ (none k (omega arith) l)) (λ l. absurd (omega arith)) in
+    unplaced_by (position_or_len is_feed bs) (length bs) _ refl end
+feed_searched bs (Some k) found =
+    let within : k < length bs = found.0.high in
+    let first : position_or_len is_feed bs ≡ k = position_or_len_is is_feed bs k 0 (omega arith) (λ j l. false_from_ne_true _ (found.0.before j (omega arith) l)) (λ l. found.1) in
+    placed_by (position_or_len is_feed bs) (length bs) k _ refl first within
 
 -- a place that is found is the first
 pub position_found : {X : Type 0} (p : X → Bool) (xs : List X) (k : ℕ) → position p xs ≡ Some k → (position_or_len p xs ≡ k) × (k < length xs)

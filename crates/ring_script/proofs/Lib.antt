@@ -2,6 +2,7 @@ pub mod FirstWord
 pub mod ReadBack
 pub mod Numbers
 pub mod FirstLine
+pub mod TextBytes
 pub mod Bodies
 pub mod Taking
 pub mod Lines

@@ -6,6 +6,7 @@ ghost use Rattle.ring_script.specs.Reading.{Spells, IsFirstFault};
 use crate::fault::{LineFault, ScriptFault};
 use crate::reader::Reader;
 use crate::statement::Statement;
+use memchr::memchr;
 use ring_names::{CreditSpec, Items, Name};
 use std::alloc::Global;
 
@@ -77,9 +78,10 @@ pub fn next_line(text: &[u8]) -> (&[u8], &[u8])
 }
 
 /// The place of the first line feed.
+#[tactic(auto, using(crate::proofs::FirstLine::feed_searched))]
 fn feed_place(text: &[u8]) -> Option<usize>
     ensures place { result ≡ position (λ b. b == 10) text.now }
     ensures within { IfSome result (λ place. place < length text.now) }
 {
-    text.iter().position(|byte| *byte == b'\n')
+    memchr(b'\n', text)
 }
