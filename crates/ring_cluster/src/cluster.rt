@@ -777,7 +777,7 @@ fn copied_names(alloc: Global, names: &[Name]) -> Result<Vec<Name>, OutOfMemory>
 fn copied_events(alloc: Global, events: &[Event]) -> Result<Vec<Event>, OutOfMemory>
     ensures { IfOk result (λ v. v.items ≡ events.now) }
 {
-    let mut all = Vec::new(alloc);
+    let mut all = Vec::with_capacity(alloc, events.len())?;
     for event in events {
         if all.push(event.copy()?).is_err() {
             return Err(OutOfMemory);

@@ -158,8 +158,7 @@ fn done_by_script<T: Threads, G: Gate>(
     ensures { DoesAsAsked (Asked.Play journal) bytes.items result }
 {
     let script = read_script(alloc, &bytes)?;
-    drop(bytes);
-    let played = play(threads, alloc, script, journal, gate)?;
+    let played = play(threads, alloc, script, bytes, journal, gate)?;
     Ok(played)
 }
 

@@ -24,10 +24,10 @@ use call::ring_call;
 use cause::Cause;
 use ring_io::{ReadSource, ShutGate, WriteSink};
 use ring_names::OutOfMemory;
-use std::env;
 use std::io::ErrorKind;
 use std::process::ExitCode;
 use std::rt::Env;
+use std::{env, mem};
 use word::Word;
 
 /// The words of the command line, behind the program's own name. Words that are no text are none that
@@ -60,5 +60,8 @@ fn main(rt: HostRuntime) -> ExitCode {
     let mut source = ReadSource::new(rt.stdin());
     let mut sink = WriteSink::new(rt.stdout());
     let ended = ring_call(&rt, rt.alloc(), &words, &mut source, &mut sink, &ShutGate);
-    exit_code(ended.cause)
+    let code = exit_code(ended.cause);
+    // The process ends here, and with it all its memory: nothing is freed piece by piece.
+    mem::forget(ended);
+    code
 }

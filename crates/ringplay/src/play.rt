@@ -29,11 +29,12 @@ pub(crate) struct Played {
 }
 
 /// Plays the script: the commands on its lines in order, and at its end the ring settles once more. The journal is told
-/// behind the report, where it is to be kept.
+/// behind the report, where it is to be kept. The text takes over the memory of `old`, which is the script's own.
 pub(crate) fn play<T: Threads, G: Gate>(
     threads: &T,
     alloc: Global,
     script: Script,
+    old: Vec<u8>,
     kept: bool,
     gate: &G,
 ) -> Result<Played, OutOfMemory>
@@ -52,7 +53,7 @@ pub(crate) fn play<T: Threads, G: Gate>(
     let cluster = play_lines(threads, alloc, &names, credit, lines, gate)?;
     let journal = cluster.journal()?;
     a_run_is_within();
-    let report = report(alloc, &cluster, heard)?;
+    let report = report(alloc, old, &cluster, heard)?;
     let text = with_journal(alloc, kept, &names, credit, &journal, report)?;
     Ok(Played {
         journal,

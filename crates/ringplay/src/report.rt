@@ -26,16 +26,63 @@ use std::alloc::Global;
 /// The bytes of the shortest line of a message that was received, its line feed with it.
 const SHORTEST_HEARD: usize = 9;
 
-/// The report of the state in which the cluster's members stand, and of what they refused. At first it has room for
-/// `heard` short lines.
-pub(crate) fn report(alloc: Global, cluster: &Cluster, heard: usize) -> Result<Vec<u8>, OutOfMemory>
+/// The bytes of the shortest line of an item beside its body's, its line feed with them.
+const SHORTEST_ITEM: usize = 9;
+
+/// The report of the state in which the cluster's members stand, and of what they refused. It takes over the memory of
+/// `old`, whose bytes are gone. At first it has room for `heard` short lines, and about as much as the items take.
+pub(crate) fn report(
+    alloc: Global,
+    old: Vec<u8>,
+    cluster: &Cluster,
+    heard: usize,
+) -> Result<Vec<u8>, OutOfMemory>
     ensures { IfOk result (λ text. text.items
         ≡ report_of (state_of cluster.now) (refusals_of (cluster.now).events)) }
 {
-    let room = heard.saturating_mul(SHORTEST_HEARD);
-    let mut text = Vec::with_capacity(alloc, room)?;
+    let room = heard
+        .saturating_mul(SHORTEST_HEARD)
+        .saturating_add(items_room(cluster));
+    let mut text = old;
+    text.clear();
+    text.reserve_exact(room)?;
     push_report(alloc, &mut text, cluster)?;
     Ok(text)
+}
+
+/// About how many bytes the lines of items take: each body is taken to be as long as those of the published messages
+/// are on average.
+fn items_room(cluster: &Cluster) -> usize {
+    let mut items: usize = 0;
+    for place in 0..cluster.members() {
+        items = items.saturating_add(depth_at(cluster, MemberId(place + 1)));
+    }
+    let line = average_body(cluster.events()).saturating_add(SHORTEST_ITEM);
+    items.saturating_mul(line)
+}
+
+/// How many items are told of the member of an id.
+fn depth_at(cluster: &Cluster, id: MemberId) -> usize {
+    match (cluster.member(id), cluster.mirror(id)) {
+        (Some(member), Some(mirror)) => match member.phase() {
+            Phase::Up => mirror.queue().depth() as usize,
+            Phase::Waiting | Phase::Stopped => 0,
+        },
+        _ => 0,
+    }
+}
+
+/// How many bytes a message to the queue has on average.
+fn average_body(events: &[Event]) -> usize {
+    let mut bytes: usize = 0;
+    let mut count: usize = 0;
+    for event in events {
+        if let Event::Publish { by: _, body } = event {
+            bytes = bytes.saturating_add(body.bytes().len());
+            count = count.saturating_add(1);
+        }
+    }
+    bytes.checked_div(count).unwrap_or(0)
 }
 
 /// The report of the state in which the cluster's members stand, of the opening and joined, and of what they refused.
