@@ -24,7 +24,7 @@ const MOST_ROUNDS: u32 = 64;
 /// How many turns each member has in a round of a settling.
 const TURNS: u32 = 16;
 
-/// The members of a ring over plain pairs with what each has still to do, the registrar, and the journal of what has
+/// The members of a ring over ring pairs with what each has still to do, the registrar, and the journal of what has
 /// happened among them. It stands for the nodes on which the processes of `gm` run, and for the registry in which
 /// they keep their group.
 #[derive(Drop)]
@@ -101,7 +101,6 @@ impl Cluster {
         Ok(cluster)
     }
 
-    #[tactic(auto, using(crate::proofs::rounds::Holding::none_collected))]
     fn founding(alloc: Global, members: &[Name], credit: CreditSpec) -> Result<Cluster, OutOfMemory>
         requires { AreOpeningNames members.now }
         ensures { IfOk result (λ c. c ≡ opening_seen credit members.now) }

@@ -1,4 +1,4 @@
-//! The cluster: the members of a ring over plain pairs, each with its view of the group, the registrar that keeps
+//! The cluster: the members of a ring over ring pairs, each with its view of the group, the registrar that keeps
 //! the views, the journal of what has happened among them, and a driver that gives each member its turns until
 //! nothing is left to do.
 //! Begin at `Cluster`, and at specs/Seen.antt for what is seen of one.

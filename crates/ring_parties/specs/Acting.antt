@@ -5,6 +5,7 @@ use Rattle.queue_core.specs.declared.message.Message.{Message}
 use Rattle.ring_names.specs.declared.reason.Reason.{Reason}
 use Rattle.ring_names.specs.declared.reason.Reason.TheVariants as reason
 use Rattle.ring_names.specs.declared.numbers.CreditSpec.{CreditSpec}
+use Rattle.ordered_link.specs.Names.{PairName}
 use Rattle.credit_flow.specs.Credit.{grant_due}
 use Rattle.credit_flow.specs.Link.{with_grant}
 use Rattle.group_view.specs.declared.link.LinkName.{LinkName}
@@ -38,21 +39,24 @@ use Rattle.ring_parties.specs.Keeps.{said_by, saying_refused, own_known, round_n
 abbrev pub sent_of : PacketById → PacketShown
 sent_of k = record { view = k.view; lines = k.lines }
 
--- Items join those that wait in the out end, grants leave those that have come back to it, and it has ended or not.
+-- Items were put, grants that had come back were gained, and it has ended or not.
 pub record ActsOut (items : List (Option PacketShown)) (grants : List ℕ) (is_ended : Bool) (o o' : OutSeen) : Type 0 where
-  pub waiting : o'.waiting ≡ o.waiting ++ items
-  pub free : o.free ≡ o'.free + length items
+  pub put : o'.put ≡ o.put ++ items
+  pub gained : o'.gained ≡ o.gained ++ grants
   pub back : grants ++ o'.back ≡ o.back
   pub initial : o'.initial ≡ o.initial
+  pub ring : o'.ring ≡ o.ring
   pub ended : o'.ended ≡ is_ended
 
--- The oldest item, a packet, is gone from the in end, and the grant that is due is given.
+-- The oldest item, a packet, was taken, and the grant that is due is given.
 pub record TakesIn (due : Option ℕ) (n : InSeen) (k : PacketShown) (n' : InSeen) : Type 0 where
+  pub taken : n'.taken ≡ n.taken ++ Some k ∷ []
   pub items : n.items ≡ Some k ∷ n'.items
   pub given : n'.given ≡ with_grant n.given due
   pub late : n'.late ≡ None
   pub room : length n'.given + n'.free ≡ length n.given + n.free
   pub initial : n'.initial ≡ n.initial
+  pub ring : n'.ring ≡ n.ring
 
 -- ---- what a member needs of its ends for its calls
 
@@ -235,8 +239,8 @@ Looks v a b new replaced =
     When (sends_to a.held.out (right_of v a.held.id))
     ((b ≡ record { held = refreshed_held a.held v; ends = looked_ends v a }) × (new ≡ None) × (replaced ≡ None))
     × When (not (sends_to a.held.out (right_of v a.held.id)))
-    ((b ≡ record { held = refreshed_held a.held v; ends = record (looked_ends v a) { out = Some (opened_out a.held.initial (first_sent a v)) } })
-    × (new ≡ Some (record { name = ring_link a.held.id (right_of v a.held.id) v.version; end = Some (fresh_in a.held.initial) }))
+    ((ring : PairName) × (ring.slots ≡ a.held.initial + 1) × (b ≡ record { held = refreshed_held a.held v; ends = record (looked_ends v a) { out = Some (opened_out ring a.held.initial (first_sent a v)) } })
+    × (new ≡ Some (record { name = ring_link a.held.id (right_of v a.held.id) v.version; end = Some (fresh_in ring a.held.initial) }))
     × Replacing a.held.id a.held.out a.ends.out replaced)
 
 -- ---- all parties

@@ -1,6 +1,7 @@
 -- What the ends of a link show, and what they hold of the ring's link between them.
-use Rattle.std.specs.Prelude.{◌≡◌, ℕ, ◌+◌, ◌≤◌, Bool, false, List, [], ◌∷◌, ◌++◌, length, Option, Some, None, is_some}
+use Rattle.std.specs.Prelude.{◌≡◌, ℕ, ◌+◌, Bool, false, List, [], ◌∷◌, ◌++◌, length, Option, Some, None, is_some}
 use Rattle.activity.specs.Packets.{LineSeen}
+use Rattle.ordered_link.specs.Names.{PairName}
 use Rattle.gm_member.specs.Stands.{lines_in}
 use Rattle.ring_rules.specs.declared.phase.Ending.{Ending}
 use Rattle.ring_rules.specs.Machine.{World, Packet, Sending, Link}
@@ -11,23 +12,28 @@ pub record PacketShown : Type 0 where
   pub view : ℕ
   pub lines : List (Option LineSeen)
 
--- What the out end of a link shows: the items that wait in it, an item without a packet being the end of the link; the grants that have
--- come back; the credit of its link; the slots that it knows to be free; and whether it has ended.
+-- What the out end of a link shows: all items that were put, an item without a packet being the end of the link; the grants that it
+-- gained, and those that it knows to have come back besides; the credit of its link; the slots that it knows to be free; whether it has
+-- ended; and the rings of its link.
 pub record OutSeen : Type 0 where
-  pub waiting : List (Option PacketShown)
+  pub put : List (Option PacketShown)
+  pub gained : List ℕ
   pub back : List ℕ
   pub initial : ℕ
   pub free : ℕ
   pub ended : Bool
+  pub ring : PairName
 
--- What the in end of a link shows: its items, the grants that were given and haven't gone, the grant that waits, the credit of its
--- link, and the slots that it knows to be free on the way back.
+-- What the in end of a link shows: all items that were taken, and those that it knows to stand there besides; the grants that were given,
+-- and the one that waits in the end; the credit of its link; the slots that it knows to be free on the way back; and the rings of its link.
 pub record InSeen : Type 0 where
+  pub taken : List (Option PacketShown)
   pub items : List (Option PacketShown)
   pub given : List ℕ
   pub late : Option ℕ
   pub initial : ℕ
   pub free : ℕ
+  pub ring : PairName
 
 -- a packet of the ring, as an item of a link, behind what passed there before it
 abbrev pub packet_in : World → Sending → Packet → Option PacketShown
@@ -47,53 +53,58 @@ end_items (Some why) = None ∷ []
 abbrev pub items_in : World → Link → List (Option PacketShown)
 items_in w l = packets_in w l.had l.packets ++ end_items l.ending
 
--- The ends may meet: they are of one credit, and each knows no more free slots than there are.
+-- The ends may meet: they are those of one link.
 pub record Fits (o : OutSeen) (n : InSeen) : Type 0 where
   pub initial : n.initial ≡ o.initial
-  pub slots : length o.waiting + length n.items + o.free ≤ o.initial + 1
-  pub room : length o.back + length n.given + n.free ≤ o.initial
+  pub ring : n.ring ≡ o.ring
+  pub slots : o.ring.slots ≡ o.initial + 1
 
--- The two ends hold between them what stands on the link, and may meet.
+-- What was taken, and then what stands on the link, is what was put; the grants that were gained, and then those under way, are what was
+-- given; and the ends may meet.
 pub record Carries (w : World) (credit : ℕ) (l : Link) (o : OutSeen) (n : InSeen) : Type 0 where
-  pub items : n.items ++ o.waiting ≡ items_in w l
-  pub grants : o.back ++ n.given ≡ l.flow.grants
+  pub items : n.taken ++ items_in w l ≡ o.put
+  pub grants : o.gained ++ l.flow.grants ≡ n.given
   pub late : n.late ≡ None
   pub ended : o.ended ≡ is_some l.ending
   pub initial : o.initial ≡ credit
   pub fits : Fits o n
 
--- Nothing waits in either end, and each knows its free slots.
+-- Each end knows all that the other has done, and its free slots.
 pub record HaveMet (o : OutSeen) (n : InSeen) : Type 0 where
-  pub moved : o.waiting ≡ []
-  pub given : n.given ≡ []
+  pub items : n.taken ++ n.items ≡ o.put
+  pub grants : o.gained ++ o.back ≡ n.given
   pub free : o.free + length n.items ≡ o.initial + 1
   pub room : n.free + length o.back ≡ n.initial
 
--- Nothing waits in an out end that was dropped, and of its other end's grants none has come to it since: o is what it showed last.
+-- The in end knows all that was put, and which slots of the way back are free: so it is of an out end that was dropped, of which o is what it
+-- showed last.
 pub record HasRested (o : OutSeen) (n : InSeen) : Type 0 where
-  pub moved : o.waiting ≡ []
-  pub room : n.free + length o.back + length n.given ≡ n.initial
+  pub items : n.taken ++ n.items ≡ o.put
+  pub room : n.free + length n.given ≡ n.initial + length o.gained
 
--- What waited in either end has gone to the other.
+-- The ends have met: nothing was put, taken, gained or given.
 pub record Meets (o : OutSeen) (n : InSeen) (o' : OutSeen) (n' : InSeen) : Type 0 where
-  pub items : n'.items ≡ n.items ++ o.waiting
-  pub back : o'.back ≡ o.back ++ n.given
   pub met : HaveMet o' n'
-  pub late : n'.late ≡ n.late
+  pub put : o'.put ≡ o.put
+  pub gained : o'.gained ≡ o.gained
+  pub taken : n'.taken ≡ n.taken
+  pub given : n.late ≡ None → (n'.late ≡ None) × (n'.given ≡ n.given)
   pub ended : o'.ended ≡ o.ended
   pub out_initial : o'.initial ≡ o.initial
   pub in_initial : n'.initial ≡ n.initial
+  pub out_ring : o'.ring ≡ o.ring
+  pub in_ring : n'.ring ≡ n.ring
 
 -- ---- a link that opens
 
 -- its out end, on which the first packet was put
-abbrev pub opened_out : ℕ → PacketShown → OutSeen
-opened_out initial k = record { waiting = Some k ∷ []; back = []; initial = initial; free = initial; ended = false }
+abbrev pub opened_out : PairName → ℕ → PacketShown → OutSeen
+opened_out ring initial k = record { put = Some k ∷ []; gained = []; back = []; initial = initial; free = initial; ended = false; ring = ring }
 
 -- an out end on which nothing was put
-abbrev pub fresh_out : ℕ → OutSeen
-fresh_out initial = record { waiting = []; back = []; initial = initial; free = initial + 1; ended = false }
+abbrev pub fresh_out : PairName → ℕ → OutSeen
+fresh_out ring initial = record { put = []; gained = []; back = []; initial = initial; free = initial + 1; ended = false; ring = ring }
 
 -- an in end from which nothing was taken
-abbrev pub fresh_in : ℕ → InSeen
-fresh_in initial = record { items = []; given = []; late = None; initial = initial; free = initial }
+abbrev pub fresh_in : PairName → ℕ → InSeen
+fresh_in ring initial = record { taken = []; items = []; given = []; late = None; initial = initial; free = initial; ring = ring }

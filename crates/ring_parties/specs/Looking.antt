@@ -1,7 +1,7 @@
 -- What a member that has another view hands on: the link that it opens, and the out end that it replaces.
 use Rattle.std.specs.Prelude.{ℕ, Bool, true, false, List, [], ◌∷◌, Option, Some, None, option_map}
-use Rattle.ordered_link.specs.declared.plain.PlainOut.{PlainOut}
-use Rattle.ordered_link.specs.declared.plain.PlainIn.{PlainIn}
+use Rattle.ordered_link.specs.declared.ring.RingOut.{RingOut}
+use Rattle.ordered_link.specs.declared.ring.RingIn.{RingIn}
 use Rattle.group_view.specs.declared.link.LinkName.{LinkName}
 use Rattle.group_view.specs.declared.request.Request.{Request}
 use Rattle.group_view.specs.declared.request.Answer.{Answer}
@@ -29,7 +29,7 @@ first_of [] = None
 first_of (a ∷ rest) = Some a
 
 -- the link that is to wait at the registrar, of the requests that follow
-abbrev pub to_deposit : List (Request (PlainIn Load)) → Option Deposit
+abbrev pub to_deposit : List (Request (RingIn Load)) → Option Deposit
 to_deposit [] = None
 to_deposit (first ∷ rest) = option_map (λ d. record { name = d.0; end = Some (in_seen d.1) }) (handed_over first)
 
@@ -38,7 +38,7 @@ abbrev pub pending_shown : Option PendingDeposit → Option Deposit
 pending_shown pending = option_map (λ u. record { name = u.name; end = Some (in_seen u.link) }) pending
 
 -- an out end that was replaced
-abbrev pub replaced_seen : Option (LinkName × PlainOut Load) → Option (LinkName × OutSeen)
+abbrev pub replaced_seen : Option (LinkName × RingOut Load) → Option (LinkName × OutSeen)
 replaced_seen replaced = option_map named_out replaced
 
 -- a member that has given up the ends that it has replaced or left

@@ -2,10 +2,12 @@
 use Rattle.std.specs.Prelude.{◌≡◌, ℕ, ◌++◌, Bool, false, List, [], map, slice_index_or, slice_set, Option, Some, None, option_map}
 use Rattle.ordered_link.specs.declared.item.Item.{Item}
 use Rattle.ordered_link.specs.declared.item.Item.TheVariants as item
+use Rattle.rtrb.specs.Ring.{sent, received as got, known_items, known_free}
 use Rattle.ordered_link.specs.declared.ends.LinkOut.{Ghosts}
-use Rattle.ordered_link.specs.declared.plain.PlainOut.{PlainOut}
-use Rattle.ordered_link.specs.declared.plain.PlainIn.{PlainIn}
-use Rattle.ordered_link.specs.Steps.{PlainPuts, PlainGains}
+use Rattle.ordered_link.specs.Names.{out_pair, in_pair}
+use Rattle.ordered_link.specs.declared.ring.RingOut.{RingOut}
+use Rattle.ordered_link.specs.declared.ring.RingIn.{RingIn}
+use Rattle.ordered_link.specs.RingSteps.{RingPuts, RingGains}
 use Rattle.confirm_book.specs.Book.{Ledger, without_room}
 use Rattle.group_view.specs.declared.link.LinkName.{LinkName}
 use Rattle.group_view.specs.View.{Group}
@@ -23,13 +25,13 @@ use Rattle.gm_member.specs.Shown.{Ends, held_of, ends_of, with_in as with_end}
 use Rattle.ring_parties.specs.declared.party.Party.{Party}
 use Rattle.ring_parties.specs.Ends.{PacketShown, OutSeen, InSeen}
 
--- what a plain out end shows as the end of a link
-abbrev pub plain_out : Ghosts (PlainOut Load) Load
-plain_out = record { free = λ e. e.free; ended = λ e. e.ended; grants = λ e. e.back.items; puts = PlainPuts; gains = PlainGains; looked = λ a b. b ≡ a }
+-- what a ring's out end shows as the end of a link
+abbrev pub ring_out : Ghosts (RingOut Load) Load
+ring_out = record { free = λ e. known_free e.items; ended = λ e. e.ended; grants = λ e. known_items e.back; puts = RingPuts; gains = RingGains; looked = λ a b. b ≡ a }
 
--- a member over plain pairs
+-- a member over ring pairs
 abbrev pub ANode : Type 0
-ANode = Member (PlainOut Load) (PlainIn Load) plain_out
+ANode = Member (RingOut Load) (RingIn Load) ring_out
 
 -- ---- what ends show
 
@@ -39,27 +41,27 @@ content (item.Load x) = Some (record { view = (packet_seen x).view; lines = (pac
 content (item.End reason) = None
 
 -- an out end
-abbrev pub out_seen : PlainOut Load → OutSeen
-out_seen o = record { waiting = map content o.waiting.items; back = o.back.items; initial = o.initial; free = o.free; ended = o.ended }
+abbrev pub out_seen : RingOut Load → OutSeen
+out_seen o = record { put = map content (sent o.items); gained = got o.back; back = known_items o.back; initial = o.initial; free = known_free o.items; ended = o.ended; ring = out_pair o }
 
 -- an in end
-abbrev pub in_seen : PlainIn Load → InSeen
-in_seen n = record { items = map content n.items.items; given = n.given.items; late = n.late; initial = n.initial; free = n.free }
+abbrev pub in_seen : RingIn Load → InSeen
+in_seen n = record { taken = map content (got n.items); items = map content (known_items n.items); given = sent n.back; late = n.late; initial = n.initial; free = known_free n.back; ring = in_pair n }
 
 -- what the ends that a member has show
 abbrev pub EndsSeen : Type 0
 EndsSeen = Ends OutSeen InSeen
 
 -- ends that were replaced, with the names of their links
-abbrev pub named_out : LinkName × PlainOut Load → LinkName × OutSeen
+abbrev pub named_out : LinkName × RingOut Load → LinkName × OutSeen
 named_out old = (old.0, out_seen old.1)
 
 -- ends that were left
-abbrev pub named_in : LinkName × PlainIn Load → LinkName × InSeen
+abbrev pub named_in : LinkName × RingIn Load → LinkName × InSeen
 named_in old = (old.0, in_seen old.1)
 
 -- what they show
-abbrev pub ends_seen : Ends (PlainOut Load) (PlainIn Load) → EndsSeen
+abbrev pub ends_seen : Ends (RingOut Load) (RingIn Load) → EndsSeen
 ends_seen e = record {
   out = option_map out_seen e.out;
   returned = e.returned;
@@ -113,7 +115,7 @@ pub record Deposit : Type 0 where
   pub end : Option InSeen
 
 -- one that stands at the registrar
-abbrev pub deposit_shown : WaitingLink (PlainIn Load) → Deposit
+abbrev pub deposit_shown : WaitingLink (RingIn Load) → Deposit
 deposit_shown s = record { name = s.name; end = option_map in_seen s.link }
 
 -- a link whose end isn't there
@@ -131,7 +133,7 @@ pub record Parties : Type 0 where
   pub deposits : List Deposit
 
 -- the parties, with these links behind those that stand at the registrar
-abbrev pub parties : List Party → Registry (PlainIn Load) → List Deposit → Parties
+abbrev pub parties : List Party → Registry (RingIn Load) → List Deposit → Parties
 parties members r behind = record { nodes = map shown_in members; views = r.views; stopped = r.stopped; deposits = map deposit_shown r.links ++ behind }
 
 -- What is seen of the parties: what they show, what they keep of their queue, by places, and whether the registrar is owed a link that waits

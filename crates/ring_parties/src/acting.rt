@@ -11,6 +11,7 @@ ghost use Rattle.ring_parties.specs.Acting.{IsReady, IsBooked, step_refused, Doe
 ghost use Rattle.ring_parties.specs.Acting.{is_alone, alone_refused, DoesAlone};
 ghost use Rattle.ring_parties.specs.Tried.{IsJudged, Tries};
 
+use crate::control::Control;
 use crate::looking::{Replaced, ask, look};
 use crate::node::{Node, gain, pick, put, stop, take_end};
 use crate::parties::Parties;
@@ -20,7 +21,7 @@ use crate::refusing::{look_refusal, own_refusal, stop_refusal, unknown};
 use activity::Load;
 use gm_member::Ask;
 use group_view::Request;
-use ordered_link::PlainIn;
+use ordered_link::RingIn;
 use registrar::Registrar;
 use ring_names::{CreditSpec, MemberId, Name};
 use ring_rules::{Event, Kind, LinkStep, Refused, ViewChange};
@@ -79,14 +80,18 @@ fn do_alone(party: &mut Party, event: &Event) -> Result<(), Refused>
 }
 
 /// The registrar hears that a member stops, of which it hasn't heard before.
-fn notify(registrar: &mut Registrar<PlainIn<Load>>, by: MemberId) -> Result<(), Refused>
+fn notify(
+    control: &mut Control,
+    registrar: &mut Registrar<RingIn<Load>>,
+    by: MemberId,
+) -> Result<(), Refused>
     requires here { AreHere (registrar.old).links }
     requires allowed { the_stop_refusal registrar.old by.0 ≡ None }
     ensures ok { OnOk result (registrar.new ≡ with_stopped registrar.old by.0) }
     ensures reason { IfErr result (λ e. e ≡ Refused.OutOfMemory) }
     ensures err { OnErr result (registrar.new ≡ registrar.old) }
 {
-    match registrar.handle(Request::Stopped { by }) {
+    match control.visit(registrar, Request::Stopped { by }) {
         Ok(_noted) => Ok(()),
         Err((_request, _fault)) => Err(Refused::OutOfMemory),
     }
@@ -190,8 +195,13 @@ impl Parties {
         if let Some(reason) = stop_refusal(&self.members[i].node) {
             return Err(Refused::NotEnabled(reason));
         }
-        notify(&mut self.registrar, MemberId(i as u32 + 1))?;
-        match stop(&mut self.members[i].node) {
+        let party = &mut self.members[i];
+        notify(
+            &mut party.control,
+            &mut self.registrar,
+            MemberId(i as u32 + 1),
+        )?;
+        match stop(&mut party.node) {
             Ok(()) => Ok(()),
             Err(_) => unreachable!(),
         }
@@ -325,7 +335,13 @@ impl Parties {
             (replaced_seen replaced)) }
         ensures err { OnErr result (self.new ≡ self.old) }
     {
-        match ask(&mut self.members[i].node, &mut self.registrar, what) {
+        let party = &mut self.members[i];
+        match ask(
+            &mut party.node,
+            &mut party.control,
+            &mut self.registrar,
+            what,
+        ) {
             Ok(looked) => {
                 self.pending_deposit = looked.opened;
                 Ok(looked.replaced)

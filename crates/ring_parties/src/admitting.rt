@@ -6,11 +6,11 @@ ghost use Rattle.group_view.specs.Ring.{is_in};
 ghost use Rattle.ring_rules.specs.Rows.{most_members};
 ghost use Rattle.ring_rules.specs.View.{ids};
 ghost use Rattle.gm_member.specs.Held.{at_some};
-ghost use Rattle.ring_parties.specs.Ends.{fresh_in};
 ghost use Rattle.ring_parties.specs.Parties.{Deposit, shown_of};
 ghost use Rattle.ring_parties.specs.Looking.{pending_shown};
 ghost use Rattle.ring_parties.specs.Acting.{joined};
 
+use crate::control::Control;
 use crate::looking::{Replaced, ask};
 use crate::node::Node;
 use crate::parties::Parties;
@@ -19,7 +19,7 @@ use crate::pending_deposit::PendingDeposit;
 use crate::refusing::admit_refusal;
 use gm_member::{Ask, Member};
 use group_view::View;
-use ordered_link::plain_pair;
+use ordered_link::ring_pair;
 use ring_names::{CreditSpec, MemberId, Name, OutOfMemory};
 use ring_rules::Refused;
 use std::alloc::Global;
@@ -37,9 +37,9 @@ fn joining_node(
     requires few { view.now.next_id ≤ most_members }
     requires stands { is_in view.now.next_id (ids (admitted view.now by.0 name)) ≡ true }
     ensures { IfOk result (λ m. shown_of m
-        ≡ joined credit name view.now.next_id (admitted view.now by.0 name) (Some (fresh_in credit.initial))) }
+        ≡ joined credit name view.now.next_id (admitted view.now by.0 name) (shown_of m).ends.link) }
 {
-    let (_out, link) = plain_pair(alloc, credit)?;
+    let (_out, link) = ring_pair(alloc, credit)?;
     let mut view = view.copy()?;
     let Ok(id) = view.admit(by, name) else {
         return Err(OutOfMemory);
@@ -113,8 +113,13 @@ impl Parties {
         if self.members.reserve(1).is_err() {
             return Err(Refused::OutOfMemory);
         }
+        let Ok(control) = Control::new(alloc) else {
+            return Err(Refused::OutOfMemory);
+        };
+        let party = &mut self.members[i];
         let looked = match ask(
-            &mut self.members[i].node,
+            &mut party.node,
+            &mut party.control,
             &mut self.registrar,
             Ask::Admit(*name),
         ) {
@@ -122,7 +127,7 @@ impl Parties {
             Err(refused) => return Err(refused),
         };
         seat(&mut node, looked.opened);
-        push_reserved(&mut self.members, Party::joining(alloc, node));
+        push_reserved(&mut self.members, Party::joining(alloc, node, control));
         Ok(looked.replaced)
     }
 }

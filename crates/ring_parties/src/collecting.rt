@@ -1,7 +1,7 @@
 //! A member collects the links that wait for it at the registrar.
 ghost use Rattle.std.specs.Prelude.{◌≡◌, true, false, OnOk, OnErr, IfOk, None, List, length, map};
 ghost use Rattle.std.specs.List.{filter};
-ghost use Rattle.ordered_link.specs.declared.plain.PlainIn.{PlainIn as In};
+ghost use Rattle.ordered_link.specs.declared.ring.RingIn.{RingIn as In};
 ghost use Rattle.group_view.specs.declared.request.Answer.TheVariants.{Links};
 ghost use Rattle.group_view.specs.declared.request.Deposited.{Deposited as Given};
 ghost use Rattle.ring_rules.specs.declared.phase.Phase.TheVariants.{Up};
@@ -16,13 +16,14 @@ ghost use Rattle.ring_parties.specs.Parties.{shown_of, deposit_shown};
 ghost use Rattle.ring_parties.specs.Acting.{IsReady, waits_at, Collects};
 ghost use Rattle.ring_parties.specs.Collecting.{AreOfRing, given_links};
 
+use crate::control::Control;
 use crate::looking::close;
 use crate::node::{Node, drop_old_ins};
 use crate::parties::Parties;
 use activity::Load;
 use gm_member::Ask;
 use group_view::{Answer, Deposited, Request};
-use ordered_link::PlainIn;
+use ordered_link::RingIn;
 use registrar::Registrar;
 use ring_names::{Items, OutOfMemory};
 use ring_rules::Phase;
@@ -58,13 +59,18 @@ impl Parties {
         if !is_up(&self.members[i].node) {
             return Ok(());
         }
-        collect(&mut self.members[i].node, &mut self.registrar)?;
+        let party = &mut self.members[i];
+        collect(&mut party.node, &mut party.control, &mut self.registrar)?;
         Ok(())
     }
 }
 
 /// The links that wait for a member come to its door, and the ends of those that it doesn't keep are dropped.
-fn collect(node: &mut Node, registrar: &mut Registrar<PlainIn<Load>>) -> Result<(), OutOfMemory>
+fn collect(
+    node: &mut Node,
+    control: &mut Control,
+    registrar: &mut Registrar<RingIn<Load>>,
+) -> Result<(), OutOfMemory>
     requires up { (shown_of node.old).held.phase ≡ Up }
     requires free { (shown_of node.old).held.asks ≡ false }
     requires ready { IsReady (shown_of node.old) }
@@ -81,7 +87,7 @@ fn collect(node: &mut Node, registrar: &mut Registrar<PlainIn<Load>>) -> Result<
         return Ok(());
     }
     let request = ask_to_collect(node, waiting)?;
-    match ask_for_links(registrar, request) {
+    match ask_for_links(control, registrar, request) {
         Ok(links) => {
             receive(node, links);
             Ok(())
@@ -94,7 +100,7 @@ fn collect(node: &mut Node, registrar: &mut Registrar<PlainIn<Load>>) -> Result<
 }
 
 /// The member asks for the links that wait for it, for which it has room.
-fn ask_to_collect(node: &mut Node, waiting: usize) -> Result<Request<PlainIn<Load>>, OutOfMemory>
+fn ask_to_collect(node: &mut Node, waiting: usize) -> Result<Request<RingIn<Load>>, OutOfMemory>
     requires up { (shown_of node.old).held.phase ≡ Up }
     requires free { (shown_of node.old).held.asks ≡ false }
     ensures held { OnOk result (held_of node.new ≡ asking_held (held_of node.old)) }
@@ -112,9 +118,10 @@ fn ask_to_collect(node: &mut Node, waiting: usize) -> Result<Request<PlainIn<Loa
 
 /// What the registrar answers to a request for links, which nothing refuses.
 fn ask_for_links(
-    registrar: &mut Registrar<PlainIn<Load>>,
-    request: Request<PlainIn<Load>>,
-) -> Result<Items<Deposited<PlainIn<Load>>>, OutOfMemory>
+    control: &mut Control,
+    registrar: &mut Registrar<RingIn<Load>>,
+    request: Request<RingIn<Load>>,
+) -> Result<Items<Deposited<RingIn<Load>>>, OutOfMemory>
     requires here { AreHere (registrar.old).links }
     requires links { (ds : List (Given (In Loaded))) × (answered registrar.old request ≡ Links ds) }
     requires allowed { request_refusal registrar.old request ≡ None }
@@ -122,7 +129,7 @@ fn ask_for_links(
     ensures registrar { OnOk result (registrar.new ≡ handled registrar.old request) }
     ensures err { OnErr result (registrar.new ≡ registrar.old) }
 {
-    match registrar.handle(request) {
+    match control.visit(registrar, request) {
         Ok(Answer::Links(links)) => Ok(links),
         Ok(Answer::Viewed(_)) => unreachable!(),
         Ok(Answer::Admitted { view: _, id: _ }) => unreachable!(),
@@ -133,7 +140,7 @@ fn ask_for_links(
 }
 
 /// The links with which the member's question is answered, for which it has room.
-fn receive(node: &mut Node, links: Items<Deposited<PlainIn<Load>>>)
+fn receive(node: &mut Node, links: Items<Deposited<RingIn<Load>>>)
     requires open { (shown_of node.old).held.asks ≡ true }
     requires room { HasRoom (length links) node.old }
     ensures { shown_of node.new ≡ given_links node.old links }

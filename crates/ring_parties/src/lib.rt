@@ -1,4 +1,4 @@
-//! The parties of a cluster: its members over plain pairs, the registrar that keeps their views, and a link that
+//! The parties of a cluster: its members over ring pairs, the registrar that keeps their views, and a link that
 //! hasn't reached it yet. They do one event of the ring, or say why not.
 //! Begin at `Parties`, and at specs/Parties.antt for what parties show.
 #![tactic(auto)]
@@ -6,6 +6,7 @@
 mod acting;
 mod admitting;
 mod collecting;
+mod control;
 mod looking;
 mod meeting;
 mod node;

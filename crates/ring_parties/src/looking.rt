@@ -1,8 +1,9 @@
-//! A member over plain ends that has another view.
+//! A member over ring ends that has another view.
 ghost use Rattle.std.specs.Prelude.{◌≡◌, ◌≤◌, true, length, IfOk, OnOk, OnErr, None, Some};
 ghost use Rattle.ring_names.specs.declared.reason.Reason.{Reason};
-ghost use Rattle.ordered_link.specs.declared.plain.PlainOut.{PlainOut as Out};
-ghost use Rattle.ordered_link.specs.Steps.{IsFreshPair};
+ghost use Rattle.rtrb.specs.Ring.{known_free};
+ghost use Rattle.ordered_link.specs.declared.ring.RingOut.{RingOut as Out};
+ghost use Rattle.ordered_link.specs.RingSteps.{IsFreshRingPair};
 ghost use Rattle.activity.specs.declared.packet.Load.{Load as Loaded};
 ghost use Rattle.gm_member.specs.Shown.{SpareIsReady};
 ghost use Rattle.registrar.specs.Registry.{AreHere};
@@ -18,18 +19,19 @@ ghost use Rattle.ring_parties.specs.Acting.{IsReady};
 ghost use Rattle.ring_parties.specs.Looking.{first_of, to_deposit, pending_shown, replaced_seen, tidied, without_question};
 ghost use Rattle.ring_parties.specs.Looking.{HasLooked, makes_view, ask_refused, view_for, brought};
 
+use crate::control::Control;
 use crate::node::{Node, drop_old_ins};
 use crate::pending_deposit::PendingDeposit;
 use activity::Load;
 use gm_member::Ask;
 use group_view::{Answer, LinkName, Request, View};
-use ordered_link::{PlainIn, PlainOut};
+use ordered_link::{RingIn, RingOut};
 use registrar::Registrar;
 use ring_names::{OutOfMemory, Reason};
 use ring_rules::Refused;
 
 /// An out end that its member has replaced, with the name of its link.
-pub(crate) type Replaced = (LinkName, PlainOut<Load>);
+pub(crate) type Replaced = (LinkName, RingOut<Load>);
 
 /// What a member that has another view hands on: the link that it opened, and the out end that it replaced.
 #[derive(Drop)]
@@ -56,7 +58,8 @@ pub(crate) fn look(node: &mut Node, view: View) -> Result<Looked, OutOfMemory>
 /// The member asks the registrar to make a view, and has it.
 pub(crate) fn ask(
     node: &mut Node,
-    registrar: &mut Registrar<PlainIn<Load>>,
+    control: &mut Control,
+    registrar: &mut Registrar<RingIn<Load>>,
     what: Ask,
 ) -> Result<Looked, Refused>
     requires makes { makes_view what ≡ true }
@@ -70,7 +73,7 @@ pub(crate) fn ask(
     ensures err { OnErr result ((shown_of node.new ≡ shown_of node.old) × (registrar.new ≡ registrar.old)) }
 {
     let request = node.ask(what)?;
-    match ask_for_view(registrar, request) {
+    match ask_for_view(control, registrar, request) {
         Ok(view) => Ok(read_answer(node, view)),
         Err(refused) => {
             close(node);
@@ -81,8 +84,9 @@ pub(crate) fn ask(
 
 /// What the registrar answers to a request for a view.
 fn ask_for_view(
-    registrar: &mut Registrar<PlainIn<Load>>,
-    request: Request<PlainIn<Load>>,
+    control: &mut Control,
+    registrar: &mut Registrar<RingIn<Load>>,
+    request: Request<RingIn<Load>>,
 ) -> Result<View, Refused>
     requires here { AreHere (registrar.old).links }
     requires view { (v : Group) × (brought (answered registrar.old request) ≡ Some v) }
@@ -94,7 +98,7 @@ fn ask_for_view(
     if let Some(reason) = registrar.refusal(&request) {
         return Err(Refused::NotEnabled(reason));
     }
-    match registrar.handle(request) {
+    match control.visit(registrar, request) {
         Ok(Answer::Viewed(view)) => Ok(view),
         Ok(Answer::Admitted { view, id: _ }) => Ok(view),
         Ok(Answer::Links(_)) => unreachable!(),
@@ -109,7 +113,7 @@ fn read_answer(node: &mut Node, view: View) -> Looked
     requires open { (shown_of node.old).held.asks ≡ true }
     requires ready { IsReady (shown_of node.old) }
     requires stands { is_in (shown_of node.old).held.id (ids view) ≡ true }
-    requires spare { SpareIsReady (λ n o i. IsFreshPair n o i) (λ (o : Out Loaded). o.free)
+    requires spare { SpareIsReady (λ n o i. IsFreshRingPair n o i) (λ (o : Out Loaded). known_free o.items)
         (λ (o : Out Loaded). o.ended) node.old }
     ensures { HasLooked view (without_question (shown_of node.old)) (shown_of node.new) (pending_shown result.opened)
         (replaced_seen result.replaced) }
@@ -132,7 +136,7 @@ pub(crate) fn close(node: &mut Node)
 }
 
 /// What a member that has another view hands on; the ends that it has left are dropped.
-fn hand_on(node: &mut Node, requests: Vec<Request<PlainIn<Load>>>) -> Looked
+fn hand_on(node: &mut Node, requests: Vec<Request<RingIn<Load>>>) -> Looked
     requires few { length (shown_of node.old).ends.old_outs ≤ 1 }
     ensures node { shown_of node.new ≡ tidied (shown_of node.old) }
     ensures opened { pending_shown result.opened ≡ to_deposit requests.items }
@@ -145,7 +149,7 @@ fn hand_on(node: &mut Node, requests: Vec<Request<PlainIn<Load>>>) -> Looked
 }
 
 /// The link that is to wait at the registrar, if one is.
-fn opened_by(requests: Vec<Request<PlainIn<Load>>>) -> Option<PendingDeposit>
+fn opened_by(requests: Vec<Request<RingIn<Load>>>) -> Option<PendingDeposit>
     ensures { pending_shown result ≡ to_deposit requests.items }
 {
     let first = requests.into_iter().next()?;

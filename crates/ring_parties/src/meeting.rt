@@ -16,19 +16,20 @@ use crate::party::Party;
 use crate::pending_deposit::PendingDeposit;
 use activity::Load;
 use group_view::LinkName;
-use ordered_link::{PlainIn, PlainOut, meet};
+use ordered_link::{RingIn, RingOut, ring_meet};
 use registrar::Registrar;
 
 /// Lets two ends meet.
-fn meet_two(out: &mut PlainOut<Load>, link: &mut PlainIn<Load>)
+#[tactic(auto, using(crate::proofs::standing::Rings::fits_ends, crate::proofs::standing::Rings::meets_seen))]
+fn meet_two(out: &mut RingOut<Load>, link: &mut RingIn<Load>)
     requires { Fits (out_seen out.old) (in_seen link.old) }
     ensures { Meets (out_seen out.old) (in_seen link.old) (out_seen out.new) (in_seen link.new) }
 {
-    meet(out, link);
+    ring_meet(out, link);
 }
 
 /// Lets an out end meet the end of the link of that name to a member: whether there is one.
-fn meet_node(node: &mut Node, out: &mut PlainOut<Load>, name: &LinkName) -> bool
+fn meet_node(node: &mut Node, out: &mut RingOut<Load>, name: &LinkName) -> bool
     requires { NodeMayMeet (shown_of node.old) name.now (out_seen out.old) }
     ensures met { result ≡ true → NodeMeets (shown_of node.old) name.now (out_seen out.old)
         (shown_of node.old) (shown_of node.new) (out_seen out.new) }
@@ -46,8 +47,8 @@ fn meet_node(node: &mut Node, out: &mut PlainOut<Load>, name: &LinkName) -> bool
 
 /// Lets an out end meet the end of the link of that name that waits at the registrar: whether there is one.
 fn meet_deposit(
-    registrar: &mut Registrar<PlainIn<Load>>,
-    out: &mut PlainOut<Load>,
+    registrar: &mut Registrar<RingIn<Load>>,
+    out: &mut RingOut<Load>,
     name: &LinkName,
 ) -> bool
     requires { DepositsMayMeet (map deposit_shown registrar.old.links) name.now (out_seen out.old) }
@@ -70,7 +71,7 @@ fn meet_deposit(
 /// Lets an out end meet the end of a link that hasn't reached the registrar, where it has that name: whether it has.
 fn meet_pending(
     pending_deposit: &mut Option<PendingDeposit>,
-    out: &mut PlainOut<Load>,
+    out: &mut RingOut<Load>,
     name: &LinkName,
 ) -> bool
     requires { DepositsMayMeet (behind pending_deposit.old) name.now (out_seen out.old) }
@@ -91,7 +92,7 @@ fn meet_pending(
 }
 
 /// Lets an out end meet the end of the link of that name to the member that receives it: whether there is one.
-fn meet_member(members: &mut [Party], out: &mut PlainOut<Load>, name: &LinkName) -> bool
+fn meet_member(members: &mut [Party], out: &mut RingOut<Load>, name: &LinkName) -> bool
     requires from_one { 1 ≤ name.now.to.0 }
     requires may { NodeMayMeet (slice_index_or (map shown_in members.old) (name.now.to.0 - 1) no_shown)
         name.now (out_seen out.old) }
@@ -119,7 +120,7 @@ fn meet_member(members: &mut [Party], out: &mut PlainOut<Load>, name: &LinkName)
 }
 
 /// The out end of a member, where it has one, with the name of its link. Of one that runs it hasn't ended.
-fn lend_out(node: &mut Node) -> Option<(LinkName, PlainOut<Load>)>
+fn lend_out(node: &mut Node) -> Option<(LinkName, RingOut<Load>)>
     ensures none { IfNone result ((shown_of node.old).ends.out ≡ None) }
     ensures still { IfNone result (shown_of node.new ≡ shown_of node.old) }
     ensures named { IfSome result (λ lent. out_name_of (shown_of node.old).held ≡ Some lent.0) }
@@ -134,7 +135,7 @@ fn lend_out(node: &mut Node) -> Option<(LinkName, PlainOut<Load>)>
 }
 
 /// Gives it back.
-fn give_out(node: &mut Node, out: PlainOut<Load>)
+fn give_out(node: &mut Node, out: RingOut<Load>)
     requires lent { (shown_of node.old).ends.out ≡ None }
     requires sends { IsSome (shown_of node.old).held.out }
     requires unended { runs_phase (shown_of node.old).held.phase ≡ true → (out_seen out).ended ≡ false }
@@ -152,7 +153,7 @@ impl Parties {
     ghost use Rattle.ring_parties.specs.Replaced.{MeetsMoved};
 
     /// Lets an out end meet the in end of the link of that name, wherever that stands. It takes no memory.
-    pub(crate) fn meet_in(&mut self, out: &mut PlainOut<Load>, name: &LinkName)
+    pub(crate) fn meet_in(&mut self, out: &mut RingOut<Load>, name: &LinkName)
         requires { MayMeet (self.old).all name.now (out_seen out.old) }
         ensures meets { MeetsIn (self.old).all name.now (out_seen out.old)
             (self.old).all (self.new).all (out_seen out.new) }

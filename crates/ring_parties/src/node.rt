@@ -1,4 +1,4 @@
-//! A member over plain ends, and what it does by itself.
+//! A member over ring ends, and what it does by itself.
 ghost use Rattle.std.specs.Prelude.{◌≡◌, ◌∷◌, ◌≤◌, [], List, Option, length, OnOk, OnErr, IfOk, IsOk, None, Some};
 ghost use Rattle.gm_member.specs.Held.{put_refused, pick_refused};
 ghost use Rattle.ring_parties.specs.Ends.{PacketShown};
@@ -11,11 +11,11 @@ ghost use Rattle.ring_parties.specs.Tried.{IsJudged, Tries};
 
 use activity::Load;
 use gm_member::{Member, Taken};
-use ordered_link::{PlainIn, PlainOut};
+use ordered_link::{RingIn, RingOut};
 use ring_rules::Refused;
 
-/// A member whose links are plain pairs.
-pub type Node = Member<PlainOut<Load>, PlainIn<Load>>;
+/// A member whose links are ring pairs.
+pub type Node = Member<RingOut<Load>, RingIn<Load>>;
 
 /// The member puts its next packet, where that is enabled.
 pub(crate) fn put(node: &mut Node) -> Result<(), Refused>

@@ -12,19 +12,19 @@ use crate::pending_deposit::PendingDeposit;
 use activity::Load;
 use confirm_book::Book;
 use group_view::View;
-use ordered_link::PlainIn;
+use ordered_link::RingIn;
 use queue_mirror::Mirror;
 use registrar::Registrar;
 use ring_names::{MemberId, Name, OutOfMemory};
 use std::alloc::Global;
 use std::marker::Model;
 
-/// The members of a ring over plain pairs, the registrar, and the link that hasn't reached it yet, where there is
+/// The members of a ring over ring pairs, the registrar, and the link that hasn't reached it yet, where there is
 /// one.
 #[derive(Drop)]
 pub struct Parties {
     pub(crate) members: Vec<Party>,
-    pub(crate) registrar: Registrar<PlainIn<Load>>,
+    pub(crate) registrar: Registrar<RingIn<Load>>,
     pub(crate) pending_deposit: Option<PendingDeposit>,
 }
 

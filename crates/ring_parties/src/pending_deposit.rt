@@ -2,11 +2,11 @@
 
 use activity::Load;
 use group_view::LinkName;
-use ordered_link::PlainIn;
+use ordered_link::RingIn;
 
 /// The receiving end of a link, which waits behind those at the registrar until that one takes it.
 #[derive(Drop)]
 pub(crate) struct PendingDeposit {
     pub(crate) name: LinkName,
-    pub(crate) link: PlainIn<Load>,
+    pub(crate) link: RingIn<Load>,
 }

@@ -20,7 +20,7 @@ use crate::queue::{ask_refusal, publish_refusal, say_refusal};
 use activity::Load;
 use gm_member::view_refusal;
 use group_view::{MOST_MEMBERS, Request, View};
-use ordered_link::{Item, PlainIn};
+use ordered_link::{Item, RingIn};
 use registrar::Registrar;
 use ring_names::{Name, Reason};
 use ring_rules::{Client, Event, Kind, LinkStep, Phase, ViewChange};
@@ -265,7 +265,7 @@ fn is_no_link(refusal: &Option<Reason>) -> bool
 }
 
 /// The version in which the first link at the registrar opened that comes for a member from its left neighbour.
-fn first_deposited(registrar: &Registrar<PlainIn<Load>>, node: &Node) -> Option<u32>
+fn first_deposited(registrar: &Registrar<RingIn<Load>>, node: &Node) -> Option<u32>
     ensures { result ≡ first_for (shown_of node.now).held (map deposit_shown registrar.now.links) }
 {
     for place in 0..registrar.waiting() {

@@ -4,12 +4,13 @@ ghost use Rattle.std.specs.Prelude.{Some, vec_len, vec_capacity};
 ghost use Rattle.registrar.specs.Registry.{AreHere, is_known};
 ghost use Rattle.registrar.specs.Handled.{with_link};
 
+use crate::control::Control;
 use crate::looking::Replaced;
 use crate::parties::Parties;
 use crate::pending_deposit::PendingDeposit;
 use activity::Load;
 use group_view::{LinkName, Request};
-use ordered_link::PlainIn;
+use ordered_link::RingIn;
 use registrar::Registrar;
 use ring_names::{CreditSpec, Name, OutOfMemory};
 use ring_rules::{Event, Refused};
@@ -46,10 +47,11 @@ fn make_room(journal: &mut Vec<Event>, event: &Event) -> Result<Event, OutOfMemo
 
 /// A link goes to the registrar, which knows both its members. Without memory for that it comes back.
 fn deposit(
-    registrar: &mut Registrar<PlainIn<Load>>,
+    control: &mut Control,
+    registrar: &mut Registrar<RingIn<Load>>,
     name: LinkName,
-    link: PlainIn<Load>,
-) -> Result<(), PlainIn<Load>>
+    link: RingIn<Load>,
+) -> Result<(), RingIn<Load>>
     requires here { AreHere (registrar.old).links }
     requires from { is_known registrar.old name.from.0 ≡ true }
     requires to { is_known registrar.old name.to.0 ≡ true }
@@ -57,7 +59,7 @@ fn deposit(
     ensures err { OnErr result (registrar.new ≡ registrar.old) }
     ensures back { IfErr result (λ l. l ≡ link) }
 {
-    match registrar.handle(Request::deposit(name, link)) {
+    match control.visit(registrar, Request::deposit(name, link)) {
         Ok(_noted) => Ok(()),
         Err((request, OutOfMemory)) => match request.into_link() {
             Ok((_name, link)) => Err(link),
@@ -195,7 +197,8 @@ impl Parties {
         let Some(PendingDeposit { name, link }) = self.pending_deposit.take() else {
             return Ok(());
         };
-        match deposit(&mut self.registrar, name, link) {
+        let party = &mut self.members[name.from.0 as usize - 1];
+        match deposit(&mut party.control, &mut self.registrar, name, link) {
             Ok(()) => Ok(()),
             Err(link) => {
                 self.pending_deposit = Some(PendingDeposit { name, link });

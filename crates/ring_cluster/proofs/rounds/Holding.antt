@@ -31,6 +31,7 @@ use Rattle.ring_cluster.specs.Holds.{HoldsOf, ShowsOf}
 use Rattle.ring_cluster.specs.Seen.{collected_by}
 use Rattle.ring_parties.specs.States.{state}
 use Rattle.ring_parties.specs.Ends.{PacketShown, OutSeen, InSeen, HaveMet, items_in}
+use Rattle.ordered_link.specs.Names.{PairName}
 use Rattle.ring_parties.specs.Opened.{opened_at, opened_parties}
 use Rattle.ring_parties.specs.Parties.{Shown, Parties, no_shown, node_at, names_shown}
 use Rattle.ring_parties.specs.Standing.{Places, StandAfter, MemberStands, is_to, has_in, has_out}
@@ -92,11 +93,11 @@ door_is w p q x m lt =
     ∙ take-append_seam m.door (filter (is_to w x) p.deposits)
 
 -- in a ring that opens nobody has collected a link
-pub none_collected : (credit : CreditSpec) (names : List (List ℕ)) (q : Parties) → q ≡ opened_parties credit names → collected_by q ≡ map (λ _. 0) names
-none_collected credit names q is =
+pub none_collected : (credit : CreditSpec) (names : List (List ℕ)) (q : Parties) → (rings : ℕ → PairName) × (q ≡ opened_parties rings credit names) → collected_by q ≡ map (λ _. 0) names
+none_collected credit names q (rings, is) =
     let places : List ℕ = range_with_len 0 (length names) in
     ap collected_by is
-    ∙ map-map (λ (m : Shown). length m.held.door) (opened_at credit names) places
+    ∙ map-map (λ (m : Shown). length m.held.door) (opened_at rings credit names) places
     ∙ sym (splat_is_map places (length names) 0 (length-range_with_len 0 (length names)))
     ∙ splat_is_map names (length names) 0 refl
 
@@ -126,7 +127,7 @@ member_shows credit names events q x s some lt = record {
       ∙ ends_by
       ∙ ap (map shown_on) (sym (door_is w p q x stands (omega (arith, some, lt, s.stand.stand.count))));
   grants = ap (option_map (λ (o : OutSeen). o.back)) stands.out ∙ grants_by (member_at w x).out refl;
-  moved = λ run o is. moved_by (member_at w x).out refl run o (sym stands.out ∙ is);
+  free = λ run k o at is. free_at run k o at (ap (option_map p.outs) (sym at) ∙ sym stands.out ∙ is);
   returned = stands.returned;
   old_outs = stands.old_outs;
   old_ins = stands.old_ins;
@@ -168,11 +169,13 @@ member_shows credit names events q x s some lt = record {
     grants_by None e = refl
     grants_by (Some k) e = ap Some (all_know credit.initial w q s.stand k (h.fit.own_ends.out x k e).0 (out_has credit w x k h e))
 
-    moved_by : (c : Option ℕ) → (member_at w x).out ≡ c → runs w x ≡ true → (o : OutSeen) → option_map p.outs c ≡ Some o → o.waiting ≡ []
-    moved_by None e run o is = cc
-    moved_by (Some k) e run o is =
-        let met : HaveMet (p.outs k) (p.ins k) = met_both (has_out w k) (p.outs k) (p.ins k) (out_has credit w x k h e) (s.stand.met k (h.fit.own_ends.out x k e).0 (out_is_open credit w x k h run e)) in
-        subst (λ (y : OutSeen). y.waiting ≡ []) (some_injective (p.outs k) o is) met.moved
+    free_at : runs w x ≡ true → (k : ℕ) (o : OutSeen) → (member_at w x).out ≡ Some k → Some (p.outs k) ≡ Some o → o.free + length (items_in w (link_at w k)) ≡ o.initial + 1
+    free_at run k o at is =
+        let there : k < length w.links = (h.fit.own_ends.out x k at).0 in
+        let has : has_in w k ≡ true = out_is_open credit w x k h run at in
+        let met : HaveMet (p.outs k) (p.ins k) = met_both (has_out w k) (p.outs k) (p.ins k) (out_has credit w x k h at) (s.stand.met k there has) in
+        let items : (p.ins k).items ≡ items_in w (link_at w k) = settled_items credit.initial w k (p.outs k) (p.ins k) (all_settled w p k s.stand.met there has) (s.stand.stand.carry k there has) in
+        subst (λ (y : OutSeen). y.free + length (items_in w (link_at w k)) ≡ y.initial + 1) (some_injective (p.outs k) o is) (ap (λ xs. (p.outs k).free + length xs) (sym items) ∙ met.free)
 
 -- the names that they show are those of the members
 pub names_are : (credit : CreditSpec) (names : List (List ℕ)) (events : List Event) (q : Parties) → StandAfter credit names events q → names_shown q ≡ names_in (state credit names events)

@@ -1,9 +1,9 @@
 -- Parties that owe the registrar nothing, and what holds of them where they stand.
-use Rattle.std.proofs.Common.{◌≡◌, ℕ, ◌+◌, ◌<◌, ◌≤◌, true, false, List, [], length, map, get_or, set, Option, None, sym, ap, subst, ◌∙◌, refl}
+use Rattle.std.proofs.Common.{◌≡◌, ℕ, ◌+◌, ◌-◌, ◌<◌, ◌≤◌, true, false, List, [], length, map, get_or, set, Option, Some, None, sym, ap, subst, ◌∙◌, refl, arith}
 use Rattle.std.specs.Prelude.{is_some}
 use Rattle.std.proofs.lemmas.List.{length-map, map-set}
 use Rattle.group_view.proofs.Truth.{none_there}
-use Rattle.ordered_link.specs.declared.plain.PlainIn.{PlainIn}
+use Rattle.ordered_link.specs.declared.ring.RingIn.{RingIn}
 use Rattle.registrar.specs.Registry.{Registry, AreHere, is_known, newest}
 use Rattle.gm_member.specs.Held.{up_refused}
 use Rattle.registrar.specs.Asked.{stop_refusal}
@@ -22,14 +22,14 @@ use Rattle.ring_parties.specs.Refused.{office_of, admission_refused}
 use Rattle.ring_parties.specs.Looking.{ask_refused}
 use Rattle.gm_member.specs.declared.questions.Ask.{Ask}
 use Rattle.ring_parties.proofs.events.After.{here_after, id_after, free_after, ready_after}
-use Rattle.ring_parties.proofs.events.Closing.{few_after, unheard_after, stands_after, MayLookAt}
+use Rattle.ring_parties.proofs.events.Closing.{few_after, unheard_after, stands_after, handed_within, MayLookAt}
 use Rattle.ring_parties.proofs.events.Newcomers.{LetsJoin, joins_after}
 use Rattle.ring_parties.proofs.deposits.Gathers.{all_ring, is_known_there}
 use Rattle.ring_parties.proofs.standing.Nodes.{read_shown, same_shown, shown_at, read_keeps, same_keeps}
 use Rattle.ring_parties.proofs.events.Refusing.{ask_same}
 
 -- members, a registrar and a link behind it, as the parties are seen of which they are the parts
-abbrev pub seen_as : List Party → Registry (PlainIn Load) → Option PendingDeposit → PartiesSeen
+abbrev pub seen_as : List Party → Registry (RingIn Load) → Option PendingDeposit → PartiesSeen
 seen_as ns r pending = record { all = parties ns r (behind pending); keeps = map keeps_in ns; owes = is_some pending }
 
 module _ (a : Inside) (q : PartiesSeen) (is : gathered a ≡ q) where
@@ -65,7 +65,7 @@ module _ (a : Inside) (q : PartiesSeen) (is : gathered a ≡ q) where
   unchanged i l x y e k = as_before i l x (record x { node = y }) e k refl
 
   -- where nothing is owed, nothing waits behind the links that stand at the registrar
-  pub none_behind : q.owes ≡ false → (ns : List Party) (r : Registry (PlainIn Load)) → parties ns r (behind a.pending_deposit) ≡ parties ns r []
+  pub none_behind : q.owes ≡ false → (ns : List Party) (r : Registry (RingIn Load)) → parties ns r (behind a.pending_deposit) ≡ parties ns r []
   none_behind none ns r = ap (λ l. parties ns r (behind l)) (none_there a.pending_deposit (ap (λ (x : PartiesSeen). x.owes) is ∙ none))
 
   pub bare : q.owes ≡ false → q.all ≡ parties a.members.items a.registrar []
@@ -81,6 +81,12 @@ module _ (a : Inside) (q : PartiesSeen) (is : gathered a ≡ q) where
 
     pub few : length a.members.items ≤ 64
     few = few_after shows.0 shows.1 shows.2 a.members.items a.registrar (behind a.pending_deposit) shows.3
+
+    -- who sends on a link that waits behind the registrar has a place among the members
+    pub sender_place : (u : PendingDeposit) → a.pending_deposit ≡ Some u → (1 ≤ u.name.from.0) × (u.name.from.0 - 1 < length a.members.items)
+    sender_place u e =
+        let (low, high) = handed_within shows.0 shows.1 shows.2 a.members.items a.registrar a.pending_deposit u e shows.3 in
+        (low, omega (arith, low, high))
 
     module _ (i : ℕ) (l : i < length q.all.nodes) where
       -- of the member at a place no question is open, and it may be called

@@ -2,7 +2,7 @@
 use Rattle.std.proofs.Common.{◌≡◌, ℕ, zero, suc, ◌+◌, ◌-◌, ◌<◌, true, not, List, [], ◌∷◌, length, get_or, map, set, sym, ap, subst, ◌∙◌, arith, append-nil}
 use Rattle.std.specs.List.{filter}
 use Rattle.ring_names.specs.declared.numbers.CreditSpec.{CreditSpec}
-use Rattle.ordered_link.specs.declared.plain.PlainIn.{PlainIn}
+use Rattle.ordered_link.specs.declared.ring.RingIn.{RingIn}
 use Rattle.group_view.specs.declared.link.LinkKind.TheVariants.{Ring}
 use Rattle.ring_rules.specs.declared.event.Event.{Event}
 use Rattle.ring_rules.specs.Machine.{World}
@@ -28,10 +28,10 @@ use Rattle.ring_parties.proofs.meetings.Meetings.{waiting_at}
 -- ---- what waits
 
 -- each link that waits is one of the ring
-all_of_ring : (initial : ℕ) (w : World) (nodes : List Party) (r : Registry (PlainIn Load)) (p : Places) → StandIn initial w (parties nodes r []) p → AreOfRing r.links
+all_of_ring : (initial : ℕ) (w : World) (nodes : List Party) (r : Registry (RingIn Load)) (p : Places) → StandIn initial w (parties nodes r []) p → AreOfRing r.links
 all_of_ring initial w nodes r p st = each r.links p.deposits (sym (append-nil (map deposit_shown r.links)) ∙ st.deposits)
   where
-    each : (ls : List (WaitingLink (PlainIn Load))) (ps : List ℕ) → map deposit_shown ls ≡ map (waiting_at w p) ps → AreOfRing ls
+    each : (ls : List (WaitingLink (RingIn Load))) (ps : List ℕ) → map deposit_shown ls ≡ map (waiting_at w p) ps → AreOfRing ls
     each [] ps e = λ k d l. absurd (omega arith)
     each (a ∷ ls) [] e = cc
     each (a ∷ ls) (s ∷ ps) e =
@@ -39,14 +39,14 @@ all_of_ring initial w nodes r p st = each r.links p.deposits (sym (append-nil (m
         let rest : map deposit_shown ls ≡ map (waiting_at w p) ps = cc in
         by_place (each ls ps rest) (ap (λ (x : Deposit). x.name.kind) first)
       where
-        by_place : AreOfRing ls → a.name.kind ≡ Ring → (k : ℕ) (d : WaitingLink (PlainIn Load)) → k < suc (length ls) → (get_or (a ∷ ls) k d).name.kind ≡ Ring
+        by_place : AreOfRing ls → a.name.kind ≡ Ring → (k : ℕ) (d : WaitingLink (RingIn Load)) → k < suc (length ls) → (get_or (a ∷ ls) k d).name.kind ≡ Ring
         by_place later here zero d l = here
         by_place later here (suc k) d l = later k d (omega arith)
 
 -- ---- the parties
 
 -- the member at a place collects what waits for it
-collects_at : (nodes nodes' : List Party) (r r' : Registry (PlainIn Load)) (i : ℕ) (b : Shown) → Collects (node_at (parties nodes r []) i) b (filter (waits_at (i + 1)) (map deposit_shown r.links)) → map shown_in nodes' ≡ set (map shown_in nodes) i b → r' ≡ without_links r (i + 1)
+collects_at : (nodes nodes' : List Party) (r r' : Registry (RingIn Load)) (i : ℕ) (b : Shown) → Collects (node_at (parties nodes r []) i) b (filter (waits_at (i + 1)) (map deposit_shown r.links)) → map shown_in nodes' ≡ set (map shown_in nodes) i b → r' ≡ without_links r (i + 1)
     → CollectsAt (i + 1) (parties nodes r []) (parties nodes' r' [])
 collects_at nodes nodes' r r' i b c ns rs =
     let q : Parties = parties nodes r [] in
@@ -59,7 +59,7 @@ collects_at nodes nodes' r r' i b c ns rs =
           ∙ ap (λ k. record (with_node q k b) { deposits = filter (λ d. not (waits_at (i + 1) d)) q.deposits }) place,
     )
 
-module _ (credit : CreditSpec) (names : List (List ℕ)) (events : List Event) (nodes : List Party) (r : Registry (PlainIn Load)) (s : StandAfter credit names events (parties nodes r [])) where
+module _ (credit : CreditSpec) (names : List (List ℕ)) (events : List Event) (nodes : List Party) (r : Registry (RingIn Load)) (s : StandAfter credit names events (parties nodes r [])) where
   -- what the member at a place needs for that
   pub all_ring : AreOfRing r.links
   all_ring = all_of_ring credit.initial (state credit names events) nodes r s.stand.places s.stand.stand
@@ -75,7 +75,7 @@ module _ (credit : CreditSpec) (names : List (List ℕ)) (events : List Event) (
       ∙ knows (state credit names events) r (i + 1) (lawful_after credit names events s.journal).fit.good (registrar_stands credit.initial (state credit names events) nodes r [] s.stand.places s.stand.stand) (omega arith) (within i l)
 
   -- and what comes of it
-  module _ (nodes' : List Party) (r' : Registry (PlainIn Load)) (i : ℕ) (l : i < length nodes)
+  module _ (nodes' : List Party) (r' : Registry (RingIn Load)) (i : ℕ) (l : i < length nodes)
       (c : Collects (get_or (map shown_in nodes) i no_shown) (get_or (map shown_in nodes') i no_shown) (filter (waits_at (get_or (map shown_in nodes) i no_shown).held.id) (map deposit_shown r.links)))
       (ns : map shown_in nodes' ≡ set (map shown_in nodes) i (get_or (map shown_in nodes') i no_shown))
       (rs : r' ≡ without_links r (get_or (map shown_in nodes) i no_shown).held.id) where

@@ -5,7 +5,7 @@ use Rattle.std.specs.List.{filter, position_or_len}
 use Rattle.std.proofs.lemmas.Bool.{false≢true, lt-ltb, or_right}
 use Rattle.ring_names.specs.declared.reason.Reason.{Reason}
 use Rattle.ring_names.specs.declared.reason.Reason.TheVariants as reason
-use Rattle.ordered_link.specs.declared.plain.PlainIn.{PlainIn}
+use Rattle.ordered_link.specs.declared.ring.RingIn.{RingIn}
 use Rattle.group_view.specs.declared.link.LinkName.{LinkName}
 use Rattle.group_view.specs.Link.{is_ring}
 use Rattle.group_view.specs.View.{Group}
@@ -221,7 +221,7 @@ waiting_has h ps e = by_door (is_some h.current) (position (is_for h.view h.id) 
     by_door false None k = absurd (never (ap (λ o. on_some o reason.NoLinkAtDoor (λ i. version_refusal (door_at (h.door ++ arriving h ps) i).opened h.view.version)) k))
 
 -- so where the registrar knows of one from its left neighbour, it has one by its own word
-pub registrar_waits : (h : Held) (d : ℕ) (ls : List (WaitingLink (PlainIn Load))) (behind : List Deposit) → is_left h.view h.id d ≡ true
+pub registrar_waits : (h : Held) (d : ℕ) (ls : List (WaitingLink (RingIn Load))) (behind : List Deposit) → is_left h.view h.id d ≡ true
     → (has_link (with_deposits h (map deposit_shown ls ++ behind)) || waits_from ls d h.id (since_in h.view h.id)) ≡ has_link (with_deposits h (map deposit_shown ls ++ behind))
 registrar_waits h d ls behind left = by_has (has_link (with_deposits h (map deposit_shown ls ++ behind))) (waits_from ls d h.id (since_in h.view h.id)) refl (λ w. waiting_has h (map deposit_shown ls ++ behind) (first ls w))
   where
@@ -240,7 +240,7 @@ registrar_waits h d ls behind left = by_has (has_link (with_deposits h (map depo
     at_left : (from : ℕ) → nat_eq from d ≡ true → nat_eq from (left_of h.view h.id) ≡ true
     at_left from e = ap (λ n. nat_eq n (left_of h.view h.id)) (nat_eq-is from d e) ∙ left
 
-    first : (xs : List (WaitingLink (PlainIn Load))) → waits_from xs d h.id (since_in h.view h.id) ≡ true → is_some (first_for h (map deposit_shown xs ++ behind)) ≡ true
+    first : (xs : List (WaitingLink (RingIn Load))) → waits_from xs d h.id (since_in h.view h.id) ≡ true → is_some (first_for h (map deposit_shown xs ++ behind)) ≡ true
     first [] w = cc
     first (a ∷ xs) w = by_first (comes_for h (deposit_shown a)) refl (first xs)
       where
@@ -253,7 +253,7 @@ registrar_waits h d ls behind left = by_has (has_link (with_deposits h (map depo
 
 -- ---- the first of those at the registrar, from a place on
 
-pub first_here : (h : Held) (ls : List (WaitingLink (PlainIn Load))) (place : ℕ) (name : LinkName) → option_map (λ s. s.name) (slice_get ls place) ≡ Some name
+pub first_here : (h : Held) (ls : List (WaitingLink (RingIn Load))) (place : ℕ) (name : LinkName) → option_map (λ s. s.name) (slice_get ls place) ≡ Some name
     → first_for h (drop place (map deposit_shown ls)) ≡ cond (comes_for h (no_deposit name)) (Some name.view) (first_for h (drop (place + 1) (map deposit_shown ls)))
 first_here h [] place name e = cc
 first_here h (a ∷ ls) zero name e =

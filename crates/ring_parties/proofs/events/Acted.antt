@@ -3,7 +3,7 @@ use Rattle.std.proofs.Common.{◌≡◌, ℕ, ◌+◌, true, false, List, [], �
 use Rattle.std.specs.Prelude.{IfOk}
 use Rattle.std.proofs.lemmas.List.{map-append, set-get_or}
 use Rattle.ring_names.specs.declared.numbers.CreditSpec.{CreditSpec}
-use Rattle.ordered_link.specs.declared.plain.PlainIn.{PlainIn}
+use Rattle.ordered_link.specs.declared.ring.RingIn.{RingIn}
 use Rattle.group_view.specs.declared.link.LinkName.{LinkName}
 use Rattle.group_view.specs.View.{Group}
 use Rattle.group_view.specs.Change.{marked}
@@ -24,13 +24,13 @@ use Rattle.ring_parties.specs.Acting.{is_alone, DoesAlone, Halts, Acts, LooksAt,
 use Rattle.ring_parties.specs.Refused.{marked_in, id_named}
 
 -- the member at a place is another
-one_other : (nodes nodes' : List Party) (r : Registry (PlainIn Load)) (i : ℕ) → map shown_in nodes' ≡ set (map shown_in nodes) i (get_or (map shown_in nodes') i no_shown)
+one_other : (nodes nodes' : List Party) (r : Registry (RingIn Load)) (i : ℕ) → map shown_in nodes' ≡ set (map shown_in nodes) i (get_or (map shown_in nodes') i no_shown)
     → parties nodes' r [] ≡ with_node (parties nodes r []) i (get_or (map shown_in nodes') i no_shown)
 one_other nodes nodes' r i e = ap (λ ns. record (parties nodes r []) { nodes = ns }) e
 
 -- ---- by itself
 
-pub alone_acts : (k : Kind) (keeps : Keeps) (i d : ℕ) (nodes nodes' : List Party) (r : Registry (PlainIn Load))
+pub alone_acts : (k : Kind) (keeps : Keeps) (i d : ℕ) (nodes nodes' : List Party) (r : Registry (RingIn Load))
     → DoesAlone k keeps (get_or (map shown_in nodes) i no_shown) (get_or (map shown_in nodes') i no_shown)
     → map shown_in nodes' ≡ set (map shown_in nodes) i (get_or (map shown_in nodes') i no_shown)
     → Acts k keeps i d (parties nodes r []) (parties nodes' r []) None
@@ -58,7 +58,7 @@ same_kept (Tells code inner) i q ks a other = set-get_or ks i no_keeps
 
 -- ---- a stop
 
-pub stop_acts : (keeps : Keeps) (i d : ℕ) (nodes nodes' : List Party) (r r' : Registry (PlainIn Load))
+pub stop_acts : (keeps : Keeps) (i d : ℕ) (nodes nodes' : List Party) (r r' : Registry (RingIn Load))
     → Halts (get_or (map shown_in nodes) i no_shown) (get_or (map shown_in nodes') i no_shown)
     → map shown_in nodes' ≡ set (map shown_in nodes) i (get_or (map shown_in nodes') i no_shown)
     → r' ≡ with_stopped r (i + 1)
@@ -69,19 +69,19 @@ stop_acts keeps i d nodes nodes' r r' stops e k =
 -- ---- another view
 
 -- the link that it opens waits behind those at the registrar
-pending_deposits : (nodes : List Party) (r : Registry (PlainIn Load)) (pending : Option PendingDeposit) → parties nodes r (behind pending) ≡ depositing (pending_shown pending) (parties nodes r [])
+pending_deposits : (nodes : List Party) (r : Registry (RingIn Load)) (pending : Option PendingDeposit) → parties nodes r (behind pending) ≡ depositing (pending_shown pending) (parties nodes r [])
 pending_deposits nodes r None = refl
 pending_deposits nodes r (Some u) =
     ap (λ ps. record (parties nodes r []) { deposits = ps ++ record { name = u.name; end = Some (in_seen u.link) } ∷ [] }) (sym (append-nil (map deposit_shown r.links)))
 
-pub looks_at : (v : Group) (i : ℕ) (nodes nodes' : List Party) (r : Registry (PlainIn Load)) (pending : Option PendingDeposit) (replaced : Option (LinkName × OutSeen))
+pub looks_at : (v : Group) (i : ℕ) (nodes nodes' : List Party) (r : Registry (RingIn Load)) (pending : Option PendingDeposit) (replaced : Option (LinkName × OutSeen))
     → HasLooked v (get_or (map shown_in nodes) i no_shown) (get_or (map shown_in nodes') i no_shown) (pending_shown pending) replaced
     → map shown_in nodes' ≡ set (map shown_in nodes) i (get_or (map shown_in nodes') i no_shown)
     → LooksAt v i (parties nodes r []) (parties nodes' r (behind pending)) replaced
 looks_at v i nodes nodes' r pending replaced h e = (_, pending_shown pending, h.looks, pending_deposits nodes' r pending ∙ ap (depositing (pending_shown pending)) (one_other nodes nodes' r i e))
 
 -- a view follows, and the member at a place has it
-pub follow_acts : (v : Group) (i : ℕ) (nodes nodes' : List Party) (r r' : Registry (PlainIn Load)) (pending : Option PendingDeposit) (replaced : Option (LinkName × OutSeen))
+pub follow_acts : (v : Group) (i : ℕ) (nodes nodes' : List Party) (r r' : Registry (RingIn Load)) (pending : Option PendingDeposit) (replaced : Option (LinkName × OutSeen))
     → HasLooked v (get_or (map shown_in nodes) i no_shown) (get_or (map shown_in nodes') i no_shown) (pending_shown pending) replaced
     → map shown_in nodes' ≡ set (map shown_in nodes) i (get_or (map shown_in nodes') i no_shown)
     → r' ≡ with_view r v
@@ -91,7 +91,7 @@ follow_acts v i nodes nodes' r r' pending replaced h e k =
     (looks_at v i nodes nodes' (with_view r v) pending replaced h e)
 
 -- a view follows, the member at a place has it, and another joins for whom the link is that it opens
-pub lets_in : (v : Group) (credit : CreditSpec) (name : List ℕ) (id i : ℕ) (nodes nodes' : List Party) (m : Party) (r r' : Registry (PlainIn Load)) (opened : Option PendingDeposit) (replaced : Option (LinkName × OutSeen))
+pub lets_in : (v : Group) (credit : CreditSpec) (name : List ℕ) (id i : ℕ) (nodes nodes' : List Party) (m : Party) (r r' : Registry (RingIn Load)) (opened : Option PendingDeposit) (replaced : Option (LinkName × OutSeen))
     → HasLooked v (get_or (map shown_in nodes) i no_shown) (get_or (map shown_in nodes') i no_shown) (pending_shown opened) replaced
     → map shown_in nodes' ≡ set (map shown_in nodes) i (get_or (map shown_in nodes') i no_shown)
     → shown_in m ≡ joined credit name id v (at_some (pending_shown opened) None (λ (d : Deposit). d.end)) → r' ≡ with_view r v

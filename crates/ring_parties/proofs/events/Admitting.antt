@@ -37,6 +37,7 @@ use Rattle.gm_member.proofs.Doors.{stays_older}
 use Rattle.gm_member.proofs.RefreshStands.{door_sees, looks_at}
 use Rattle.gm_member.proofs.AdmitStands.{come_log, come_same, come_held, come_sees, come_right}
 use Rattle.ring_rules.proofs.work.OwnEnds.{OwnEnds}
+use Rattle.ordered_link.specs.Names.{PairName}
 use Rattle.ring_parties.specs.Ends.{OutSeen, opened_out, fresh_in}
 use Rattle.ring_parties.specs.Parties.{Shown, Deposit, Parties, no_shown, node_at, with_node, Keeps}
 use Rattle.ring_parties.specs.Standing.{MemberStands, Stand, is_to}
@@ -340,14 +341,14 @@ lets_in credit w x name q q' replaced k st none (b, new, how, is) =
     unsent : sends_to a.held.out (right_of g a.held.id) ≡ false
     unsent = ap (λ (h : Held). sends_to h.out (right_of g h.id)) held_at ∙ unsent_yet w x name j f own
 
-    how_opened : (b ≡ record { held = refreshed_held a.held g; ends = record (looked_ends g a) { out = Some (opened_out a.held.initial (first_sent a g)) } })
-        × (new ≡ Some (record { name = ring_link a.held.id (right_of g a.held.id) g.version; end = Some (fresh_in a.held.initial) }))
+    how_opened : (ring : PairName) × (ring.slots ≡ a.held.initial + 1) × (b ≡ record { held = refreshed_held a.held g; ends = record (looked_ends g a) { out = Some (opened_out ring a.held.initial (first_sent a g)) } })
+        × (new ≡ Some (record { name = ring_link a.held.id (right_of g a.held.id) g.version; end = Some (fresh_in ring a.held.initial) }))
         × Replacing a.held.id a.held.out a.ends.out replaced
     how_opened = when_true (not (sends_to a.held.out (right_of g a.held.id))) _ (ap not unsent) how.1
 
-    d : StandOpened credit.initial w u' x (newest w + 1) g [] q b replaced
-    d = opens_parts credit.initial w u' x (newest w + 1) g (first_then w x name j f own) (kept_to (come_to w x name) (newest w + 1)) [] q b replaced
-        (opened w x name j f own credit.initial f.ends (subst IsGood then_is k.later) k.lawful.initial_is k.some) st none how_opened.0 how_opened.2
+    d : StandOpened how_opened.0 credit.initial w u' x (newest w + 1) g [] q b replaced
+    d = opens_parts how_opened.0 credit.initial w u' x (newest w + 1) g (first_then w x name j f own) (kept_to (come_to w x name) (newest w + 1)) [] q b replaced
+        (opened w x name j f own credit.initial f.ends (subst IsGood then_is k.later) k.lawful.initial_is k.some) st none how_opened.1 how_opened.2 how_opened.4
 
     places_are : d.places.deposits ≡ d.before
     places_are = d.waiting ∙ append-nil d.before
@@ -361,8 +362,8 @@ lets_in credit w x name q q' replaced k st none (b, new, how, is) =
     members_are : length (set q.nodes (x - 1) b ++ m ∷ []) ≡ length q.nodes + 1
     members_are = length_push (set q.nodes (x - 1) b) m ∙ ap (λ i. i + 1) (length-set q.nodes (x - 1) b)
 
-    end_new : new ≡ Some (record { name = ring_link a.held.id (right_of g a.held.id) g.version; end = Some (fresh_in credit.initial) })
-    end_new = how_opened.1 ∙ ap (λ i. Some (record { name = ring_link a.held.id (right_of g a.held.id) g.version; end = Some (fresh_in i) })) (ap (λ (h : Held). h.initial) held_at ∙ k.lawful.initial_is)
+    end_new : new ≡ Some (record { name = ring_link a.held.id (right_of g a.held.id) g.version; end = Some (fresh_in how_opened.0 credit.initial) })
+    end_new = how_opened.3 ∙ ap (λ i. Some (record { name = ring_link a.held.id (right_of g a.held.id) g.version; end = Some (fresh_in how_opened.0 i) })) (ap (λ (h : Held). h.initial) held_at ∙ k.lawful.initial_is)
 
     came_is : member_at u' (size w) ≡ joiner w name
     came_is = came w x name j f own

@@ -2,12 +2,12 @@
 use Rattle.std.proofs.Common.{◌≡◌, ℕ, ◌+◌, ◌-◌, ◌<◌, false, List, [], ◌∷◌, ◌++◌, length, map, Some, None, sym, ap, subst, ◌∙◌, arith}
 use Rattle.std.proofs.lemmas.List.{length-map}
 use Rattle.ring_names.specs.declared.numbers.CreditSpec.{CreditSpec}
-use Rattle.ordered_link.specs.declared.plain.PlainIn.{PlainIn}
+use Rattle.ordered_link.specs.declared.ring.RingIn.{RingIn}
 use Rattle.ring_rules.specs.declared.event.Event.{Event}
 use Rattle.ring_rules.specs.declared.event.Event.TheVariants as event
 use Rattle.ring_rules.specs.declared.kind.LinkStep.TheVariants as step
 use Rattle.ring_rules.specs.Kind.{Steps, kind_of}
-use Rattle.ring_rules.specs.Event.{by_of, id_of, refusal, refused_as, done_as, last}
+use Rattle.ring_rules.specs.Event.{by_of, id_of, refusal, refused_as, done_as}
 use Rattle.ring_rules.specs.Step.{size, opening}
 use Rattle.ring_rules.proofs.runs.InOrder.{last_append, run_append}
 use Rattle.registrar.specs.Registry.{Registry, AreHere}
@@ -111,5 +111,5 @@ module _ (credit : CreditSpec) (names : List (List ℕ)) (events : List Event) w
       })
 
   -- no end that waits at the registrar is lent
-  pub here_after : (nodes : List Party) (r : Registry (PlainIn Load)) (behind : List Deposit) → StandAfter credit names events (parties nodes r behind) → AreHere r.links
+  pub here_after : (nodes : List Party) (r : Registry (RingIn Load)) (behind : List Deposit) → StandAfter credit names events (parties nodes r behind) → AreHere r.links
   here_after nodes r behind s = none_lent credit.initial (state credit names events) nodes r behind s.stand.places s.stand.stand

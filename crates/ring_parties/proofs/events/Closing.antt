@@ -6,7 +6,7 @@ use Rattle.std.proofs.lemmas.Bool.{false≢true, le-ltb}
 use Rattle.ring_names.specs.declared.numbers.CreditSpec.{CreditSpec}
 use Rattle.ring_names.specs.declared.reason.Reason.{Reason}
 use Rattle.ring_names.specs.declared.reason.Reason.TheVariants as reason
-use Rattle.ordered_link.specs.declared.plain.PlainIn.{PlainIn}
+use Rattle.ordered_link.specs.declared.ring.RingIn.{RingIn}
 use Rattle.group_view.specs.declared.link.LinkName.{LinkName}
 use Rattle.group_view.specs.View.{Group}
 use Rattle.group_view.specs.Ring.{is_in}
@@ -20,7 +20,7 @@ use Rattle.ring_rules.specs.Kind.{Kind, Steps, Changes, Stops, Reads, Tells, kin
 use Rattle.ring_rules.specs.declared.phase.Phase.{Phase}
 use Rattle.ring_rules.specs.declared.phase.Phase.TheVariants.{Waiting, Up, Stopped}
 use Rattle.ring_rules.specs.View.{ids}
-use Rattle.ring_rules.specs.Machine.{World, member_at, is_waiting, runs_phase}
+use Rattle.ring_rules.specs.Machine.{World, member_at, link_at, is_waiting, runs_phase}
 use Rattle.ring_rules.specs.Machine as machine
 use Rattle.ring_rules.specs.Step.{size, opening}
 use Rattle.ring_rules.specs.Event.{by_of, id_of, of_member, is_stopped, up_refusal, refresh_refusal, pick_refusal, refused_as, refusal, done_as}
@@ -57,13 +57,15 @@ use Rattle.ring_parties.proofs.events.Refusals.{IsOwn, own_refuses}
 use Rattle.ring_parties.proofs.events.Refusing.{look_refuses, admit_refuses, mark_asked_refuses, nobody_named, erase_refuses, synced_refuses}
 use Rattle.ring_parties.proofs.events.EachGoes.{MayGo, each_goes}
 use Rattle.ring_parties.proofs.events.Marking.{refresh_may}
+use Rattle.ring_parties.proofs.meetings.Meetings.{deposit_at}
 use Rattle.ring_parties.proofs.meetings.Receivers.{GoesIn, replaced_goes_in}
 use Rattle.ring_parties.proofs.meetings.MeetsReplaced.{replaced_may, replaced_meets}
 use Rattle.ring_parties.proofs.deposits.Handing.{registrar_stands, knows_deposited}
 use Rattle.ring_parties.proofs.standing.Frames.{StandMoved}
+use Rattle.ring_parties.proofs.standing.Writing.{at_in}
 
 -- where nothing refuses a member to read the view of a version, the registrar has it, and the member stands in it and may read it
-abbrev pub MayLookAt : Registry (PlainIn Load) → Shown → ℕ → Type 0
+abbrev pub MayLookAt : Registry (RingIn Load) → Shown → ℕ → Type 0
 MayLookAt r a version = look_refused (newest r).version a version ≡ None → ((1 ≤ version) × (version ≤ length r.views))
     × ((is_in a.held.id (ids (view_at r.views version)) ≡ true) × (refresh_refused a.held (view_at r.views version).version ≡ None))
 
@@ -337,13 +339,13 @@ module _ (credit : CreditSpec) (names : List (List ℕ)) (events : List Event) w
   few_stand q s =
       omega (arith, (lawful_after credit names events s.journal).fit.few, s.stand.stand.count)
 
-  pub few_after : (nodes : List Party) (r : Registry (PlainIn Load)) (behind : List Deposit) → StandAfter credit names events (parties nodes r behind) → length nodes ≤ 64
+  pub few_after : (nodes : List Party) (r : Registry (RingIn Load)) (behind : List Deposit) → StandAfter credit names events (parties nodes r behind) → length nodes ≤ 64
   few_after nodes r behind s =
       let shown : length (map shown_in nodes) ≡ length nodes = length-map nodes shown_in in
       omega (arith, shown, few_stand (parties nodes r behind) s)
 
   -- the registrar hasn't heard of one that hasn't stopped
-  pub unheard_after : (nodes : List Party) (r : Registry (PlainIn Load)) (i : ℕ) → StandAfter credit names events (parties nodes r []) → i < length nodes → stop_refused (node_at (parties nodes r []) i) ≡ None → stop_refusal r (i + 1) ≡ None
+  pub unheard_after : (nodes : List Party) (r : Registry (RingIn Load)) (i : ℕ) → StandAfter credit names events (parties nodes r []) → i < length nodes → stop_refused (node_at (parties nodes r []) i) ≡ None → stop_refusal r (i + 1) ≡ None
   unheard_after nodes r i s l e =
       let q : Parties = parties nodes r [] in
       let w : World = state credit names events in
@@ -355,7 +357,7 @@ module _ (credit : CreditSpec) (names : List (List ℕ)) (events : List Event) w
       ∙ ap (λ b. refuse_if b reason.Stopped) heard
 
   -- a view that a member may read is published, and the member stands in it
-  pub stands_after : (nodes : List Party) (r : Registry (PlainIn Load)) (i version : ℕ) → StandAfter credit names events (parties nodes r []) → i < length nodes → MayLookAt r (node_at (parties nodes r []) i) version
+  pub stands_after : (nodes : List Party) (r : Registry (RingIn Load)) (i version : ℕ) → StandAfter credit names events (parties nodes r []) → i < length nodes → MayLookAt r (node_at (parties nodes r []) i) version
   stands_after nodes r i version s l e = ((published, upto), (stands, reads))
     where
       q : Parties
@@ -425,7 +427,7 @@ module _ (credit : CreditSpec) (names : List (List ℕ)) (events : List Event) w
   last_of [] d e = refl
   last_of (x ∷ xs) d e = last_of xs d e
 
-  known_pending : (nodes : List Party) (r : Registry (PlainIn Load)) (d : Deposit) → StandAfter credit names events (parties nodes r (d ∷ [])) → (is_known r d.name.from.0 ≡ true) × (is_known r d.name.to.0 ≡ true)
+  known_pending : (nodes : List Party) (r : Registry (RingIn Load)) (d : Deposit) → StandAfter credit names events (parties nodes r (d ∷ [])) → (is_known r d.name.from.0 ≡ true) × (is_known r d.name.to.0 ≡ true)
   known_pending nodes r d s =
       let n : ℕ = length (map deposit_shown r.links) in
       let both = knows_deposited credit.initial (state credit names events) nodes r (d ∷ []) s.stand.places n d (lawful_after credit names events s.journal).fit.good s.stand.stand (subst (λ k. n < k) (sym (length_push (map deposit_shown r.links) d)) (omega arith)) in
@@ -433,5 +435,19 @@ module _ (credit : CreditSpec) (names : List (List ℕ)) (events : List Event) w
       (sym (ap (λ (x : Deposit). is_known r x.name.from.0) is) ∙ both.0, sym (ap (λ (x : Deposit). is_known r x.name.to.0) is) ∙ both.1)
 
   -- and so of the one that waits before the registrar
-  pub known_handed : (nodes : List Party) (r : Registry (PlainIn Load)) (pending : Option PendingDeposit) (u : PendingDeposit) → pending ≡ Some u → StandAfter credit names events (parties nodes r (behind pending)) → (is_known r u.name.from.0 ≡ true) × (is_known r u.name.to.0 ≡ true)
+  pub known_handed : (nodes : List Party) (r : Registry (RingIn Load)) (pending : Option PendingDeposit) (u : PendingDeposit) → pending ≡ Some u → StandAfter credit names events (parties nodes r (behind pending)) → (is_known r u.name.from.0 ≡ true) × (is_known r u.name.to.0 ≡ true)
   known_handed nodes r pending u e s = known_pending nodes r (record { name = u.name; end = Some (in_seen u.link) }) (subst (λ l. StandAfter credit names events (parties nodes r (behind l))) e s)
+
+  sent_within : (nodes : List Party) (r : Registry (RingIn Load)) (d : Deposit) → StandAfter credit names events (parties nodes r (d ∷ [])) → (1 ≤ d.name.from.0) × (d.name.from.0 ≤ length nodes)
+  sent_within nodes r d s =
+      let w : World = state credit names events in
+      let n : ℕ = length (map deposit_shown r.links) in
+      let k = deposit_at credit.initial w (parties nodes r (d ∷ [])) s.stand.places n d s.stand.stand (subst (λ k. n < k) (sym (length_push (map deposit_shown r.links) d)) (omega arith)) in
+      let at : ℕ = get_or s.stand.places.deposits n 0 in
+      let from : d.name.from.0 ≡ (link_at w at).sender = ap (λ (x : Deposit). x.name.from.0) (sym (last_of (map deposit_shown r.links) d d) ∙ k.1) in
+      let (low, high) = (go_after credit names events s.journal).sender at (s.stand.stand.within at (at_in s.stand.places.deposits n k.0)) in
+      (omega (arith, from, low), omega (arith, from, high, s.stand.stand.count, length-map nodes shown_in))
+
+  -- and its sender has a place among the members
+  pub handed_within : (nodes : List Party) (r : Registry (RingIn Load)) (pending : Option PendingDeposit) (u : PendingDeposit) → pending ≡ Some u → StandAfter credit names events (parties nodes r (behind pending)) → (1 ≤ u.name.from.0) × (u.name.from.0 ≤ length nodes)
+  handed_within nodes r pending u e s = sent_within nodes r (record { name = u.name; end = Some (in_seen u.link) }) (subst (λ l. StandAfter credit names events (parties nodes r (behind l))) e s)

@@ -1,5 +1,5 @@
 -- Where a member has gained a grant, the parties stand in the state after the ring's gain.
-use Rattle.std.proofs.Common.{◌≡◌, ℕ, ◌+◌, ◌<◌, ◌++◌, length, drop, Option, None, refl, sym, ap, subst, ◌∙◌, arith, [], ◌∷◌}
+use Rattle.std.proofs.Common.{◌≡◌, ℕ, ◌+◌, ◌<◌, ◌++◌, drop, Option, None, refl, sym, ap, subst, ◌∙◌, [], ◌∷◌, append_assoc}
 use Rattle.ring_names.specs.declared.numbers.CreditSpec.{CreditSpec}
 use Rattle.credit_flow.specs.Link.{oldest as oldest_grant}
 use Rattle.group_view.specs.declared.link.LinkName.{LinkName}
@@ -17,34 +17,32 @@ use Rattle.ring_parties.specs.Parties.{Parties, node_at, Keeps}
 use Rattle.ring_parties.specs.Standing.{Places, MemberStands, Stand}
 use Rattle.ring_parties.specs.Acting.{Acts, ActsOut}
 use Rattle.ring_parties.proofs.work.Lawful.{IsLawfulAt}
-use Rattle.ring_parties.proofs.meetings.NamedLinks.{out_is_open}
+use Rattle.ring_parties.proofs.meetings.NamedLinks.{out_has}
+use Rattle.ring_parties.proofs.meetings.Known.{all_know}
 use Rattle.ring_parties.proofs.events.OneEvent.{made_of, stands_at}
 use Rattle.ring_parties.proofs.events.Steps.{OnOut, on_out, goes_out}
-use Rattle.ring_parties.proofs.standing.Frames.{StandMoved}
+use Rattle.ring_parties.proofs.standing.Frames.{StandMoved, acts_fit}
 use Rattle.std.proofs.lemmas.List.{append-nil}
 
 -- ---- one link
 
-pub gain_carries : (initial : ℕ) (w : World) (s : ℕ) (o o' : OutSeen) (n : InSeen) (amount : ℕ) → ActsOut [] (amount ∷ []) o.ended o o' → Carries w initial (link_at w s) o n → Carries w initial (regained_on w s) o' n
-gain_carries initial w s o o' n amount g c =
-    let one_less : length o.back ≡ length o'.back + 1 = omega (arith, ap length g.back) in
-    let same : o'.waiting ≡ o.waiting = g.waiting ∙ append-nil o.waiting in
+pub gain_carries : (initial : ℕ) (w : World) (s : ℕ) (o o' : OutSeen) (n : InSeen) (amount : ℕ) → o.back ≡ (link_at w s).flow.grants → ActsOut [] (amount ∷ []) o.ended o o' → Carries w initial (link_at w s) o n → Carries w initial (regained_on w s) o' n
+gain_carries initial w s o o' n amount known g c =
+    let left : o'.back ≡ (regained_on w s).flow.grants = ap (drop 1) (g.back ∙ known) in
     record {
-      items = ap (λ xs. n.items ++ xs) same ∙ c.items;
-      grants = ap (λ xs. drop 1 (xs ++ n.given)) g.back ∙ ap (drop 1) c.grants;
+      items = c.items ∙ sym (g.put ∙ append-nil o.put);
+      grants =
+          ap (λ gs. gs ++ (regained_on w s).flow.grants) g.gained ∙ append_assoc o.gained (amount ∷ []) (regained_on w s).flow.grants
+          ∙ ap (λ gs. o.gained ++ amount ∷ gs) (sym left) ∙ ap (λ gs. o.gained ++ gs) (g.back ∙ known) ∙ c.grants;
       late = c.late;
       ended = g.ended ∙ c.ended;
       initial = g.initial ∙ c.initial;
-      fits = record {
-        initial = c.fits.initial ∙ sym g.initial;
-        slots = omega (arith, c.fits.slots, g.free, g.initial, ap length same);
-        room = omega (arith, c.fits.room, g.initial);
-      };
+      fits = acts_fit [] (amount ∷ []) o.ended o o' n g c.fits;
     }
 
 -- the grant that is gained is the oldest under way
-pub gain_amount : (initial : ℕ) (w : World) (s : ℕ) (o o' : OutSeen) (n : InSeen) (amount : ℕ) → ActsOut [] (amount ∷ []) o.ended o o' → Carries w initial (link_at w s) o n → amount ≡ oldest_grant (link_at w s).flow.grants
-gain_amount initial w s o o' n amount g c = ap (λ xs. oldest_grant (xs ++ n.given)) g.back ∙ ap oldest_grant c.grants
+pub gain_amount : (w : World) (s : ℕ) (o o' : OutSeen) (amount : ℕ) → o.back ≡ (link_at w s).flow.grants → ActsOut [] (amount ∷ []) o.ended o o' → amount ≡ oldest_grant (link_at w s).flow.grants
+gain_amount w s o o' amount known g = ap oldest_grant (g.back ∙ known)
 
 -- ---- the parties
 
@@ -57,7 +55,8 @@ gain_goes credit w keeps i d q q' replaced h enabled lt st (b, (amount, o, o', e
     let s : ℕ = on.link in
     let same_end : p.outs s ≡ o = made_of p.outs (member_at w x).out s o on.is (sym a.out ∙ ends_out) in
     let its : ActsOut [] (amount ∷ []) (p.outs s).ended (p.outs s) o' = subst (λ e. ActsOut [] (amount ∷ []) e.ended e o') (sym same_end) gains in
-    let it_is : amount ≡ oldest_grant (link_at w s).flow.grants = gain_amount credit.initial w s (p.outs s) o' (p.ins s) amount its (st.stand.carry s on.within (out_is_open credit w x s h on.run on.is)) in
+    let known : (p.outs s).back ≡ (link_at w s).flow.grants = all_know credit.initial w q st s on.within (out_has credit w x s h on.is) in
+    let it_is : amount ≡ oldest_grant (link_at w s).flow.grants = gain_amount w s (p.outs s) o' amount known its in
     goes_out credit w (done_as w x (Steps step.Gain)) q q' i replaced (regained_on w) o' b st h on refl is none (λ y ne. gain_others w x s y h.fit on.is ne)
     (record {
       does = λ (g : Held). gained_held g amount;
@@ -65,4 +64,4 @@ gain_goes credit w keeps i d q q' replaced h enabled lt st (b, (amount, o, o', e
       stands = ap (gained_held (held_in w x)) it_is ∙ gain_stands w x s h.fit on.is;
       is = eb;
     })
-    (gain_carries credit.initial w s (p.outs s) o' (p.ins s) amount its)
+    (gain_carries credit.initial w s (p.outs s) o' (p.ins s) amount known its)

@@ -40,6 +40,7 @@ use Rattle.gm_member.proofs.MarkStands.{view_held, view_newest}
 use Rattle.gm_member.proofs.OpenDoors.{sends_right}
 use Rattle.ring_rules.proofs.work.OwnEnds.{OwnEnds}
 use Rattle.gm_member.proofs.RefreshStands.{first_lines}
+use Rattle.ordered_link.specs.Names.{PairName}
 use Rattle.ring_parties.specs.Ends.{OutSeen, opened_out, fresh_in}
 use Rattle.ring_parties.specs.Parties.{Parties, node_at, with_node, Keeps}
 use Rattle.ring_parties.specs.Standing.{Places, Stand, has_in}
@@ -88,11 +89,11 @@ looks_stand initial u x v q q' replaced k st none (b, new, how, is) = subst (λ 
         subst (λ n. StandMoved initial x (refreshed u x v) (depositing n (with_node q (x - 1) b)) replaced) (sym w.1)
         (subst (StandMoved initial x (refreshed u x v) (with_node q (x - 1) b)) (sym w.2) (looks_on initial u x v q b k e st none w.0))
     by_out false e s =
-        let w : (b ≡ record { held = refreshed_held (node_at q (x - 1)).held (view_in u v); ends = record (looked_ends (view_in u v) (node_at q (x - 1))) { out = Some (opened_out (node_at q (x - 1)).held.initial (first_sent (node_at q (x - 1)) (view_in u v))) } })
-        × (new ≡ Some (record { name = ring_link (node_at q (x - 1)).held.id (right_of (view_in u v) (node_at q (x - 1)).held.id) (view_in u v).version; end = Some (fresh_in (node_at q (x - 1)).held.initial) }))
+        let w : (ring : PairName) × (ring.slots ≡ (node_at q (x - 1)).held.initial + 1) × (b ≡ record { held = refreshed_held (node_at q (x - 1)).held (view_in u v); ends = record (looked_ends (view_in u v) (node_at q (x - 1))) { out = Some (opened_out ring (node_at q (x - 1)).held.initial (first_sent (node_at q (x - 1)) (view_in u v))) } })
+        × (new ≡ Some (record { name = ring_link (node_at q (x - 1)).held.id (right_of (view_in u v) (node_at q (x - 1)).held.id) (view_in u v).version; end = Some (fresh_in ring (node_at q (x - 1)).held.initial) }))
         × Replacing (node_at q (x - 1)).held.id (node_at q (x - 1)).held.out (node_at q (x - 1)).ends.out replaced
         = when_true (not (sends_of (node_at q (x - 1)).held)) _ (ap not (s ∙ e)) how.1 in
-        subst (λ n. StandMoved initial x (refreshed u x v) (depositing n (with_node q (x - 1) b)) replaced) (sym w.1) (opens_on initial u x v q b _ replaced k e st none w.0 refl w.2)
+        subst (λ n. StandMoved initial x (refreshed u x v) (depositing n (with_node q (x - 1) b)) replaced) (sym w.3) (opens_on w.0 initial u x v q b _ replaced k e st none w.1 w.2 refl w.4)
 
 -- ---- a refresh
 

@@ -1,7 +1,7 @@
 -- What lets one join whom a member admits.
 use Rattle.std.proofs.Common.{◌≡◌, ℕ, ◌+◌, ◌-◌, ◌<◌, ◌≤◌, true, List, [], ◌∷◌, ◌++◌, length, Some, None, sym, ap, subst, ◌∙◌, arith}
 use Rattle.ring_names.specs.declared.numbers.CreditSpec.{CreditSpec}
-use Rattle.ordered_link.specs.declared.plain.PlainIn.{PlainIn}
+use Rattle.ordered_link.specs.declared.ring.RingIn.{RingIn}
 use Rattle.group_view.specs.Ring.{is_in}
 use Rattle.group_view.specs.View.{Group}
 use Rattle.group_view.specs.Change.{admitted, admit_refusal as group_refusal}
@@ -44,7 +44,7 @@ pub record LetsJoin (g : Group) (x : ℕ) (name : List ℕ) : Type 0 where
 
 module _ (credit : CreditSpec) (names : List (List ℕ)) (events : List Event) where
   -- so the newest view does where nothing refuses it
-  pub joins_after : (nodes : List Party) (r : Registry (PlainIn Load)) (i : ℕ) (name : List ℕ) → StandAfter credit names events (parties nodes r []) → i < length nodes
+  pub joins_after : (nodes : List Party) (r : Registry (RingIn Load)) (i : ℕ) (name : List ℕ) → StandAfter credit names events (parties nodes r []) → i < length nodes
       → up_refused (node_at (parties nodes r []) i).held (admission_refused (newest r) name) ≡ None → LetsJoin (newest r) (i + 1) name
   joins_after nodes r i name s l e = subst (λ g. LetsJoin g x name) (sym same) (record {
     allowed = nobody_refuses_admitting w x name can.may.lives enters.0;

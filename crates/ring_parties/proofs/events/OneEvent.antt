@@ -1,13 +1,14 @@
 -- What the lemmas on single events of a cluster share.
 use Rattle.std.proofs.Common.{◌≡◌, ℕ, ◌+◌, ◌-◌, ◌<◌, Bool, true, false, Option, Some, None, inl, refl, sym, ap, subst, ◌∙◌, arith}
-use Rattle.std.specs.Prelude.{option_map}
+use Rattle.std.specs.Prelude.{option_map, ◌++◌}
+use Rattle.std.proofs.lemmas.List.{append_cancel_left}
 use Rattle.ring_names.specs.declared.reason.Reason.{Reason}
-use Rattle.ring_rules.specs.Machine.{World}
+use Rattle.ring_rules.specs.Machine.{World, link_at}
 use Rattle.ring_rules.specs.Step.{size}
 use Rattle.ring_rules.specs.Event.{of_member, at_found, on_link}
 use Rattle.gm_member.specs.Held.{Held}
 use Rattle.gm_member.specs.Stands.{held_in}
-use Rattle.ring_parties.specs.Ends.{OutSeen, InSeen, HaveMet, HasRested}
+use Rattle.ring_parties.specs.Ends.{OutSeen, InSeen, items_in, Carries, HaveMet, HasRested}
 use Rattle.ring_parties.specs.Parties.{Shown, Parties, node_at}
 use Rattle.ring_parties.specs.Standing.{Places, MemberStands, StandIn, Stand, HaveDone, has_out}
 use Rattle.ring_parties.proofs.standing.Frames.{StandMoved}
@@ -47,6 +48,14 @@ met_rested b o n e h = subst (λ c. HaveDone c o n) e h
 
 pub met_both : (b : Bool) (o : OutSeen) (n : InSeen) → b ≡ true → HaveDone b o n → HaveMet o n
 met_both b o n e h = subst (λ c. HaveDone c o n) e h
+
+-- then the in end knows what was put, and so what stands on the link
+pub done_items : (b : Bool) (o : OutSeen) (n : InSeen) → HaveDone b o n → n.taken ++ n.items ≡ o.put
+done_items true o n h = h.items
+done_items false o n h = h.items
+
+pub done_known : (b : Bool) (initial : ℕ) (w : World) (s : ℕ) (o : OutSeen) (n : InSeen) → HaveDone b o n → Carries w initial (link_at w s) o n → n.items ≡ items_in w (link_at w s)
+done_known b initial w s o n h c = append_cancel_left n.taken n.items (items_in w (link_at w s)) (done_items b o n h ∙ sym c.items)
 
 -- ---- where nothing happens
 

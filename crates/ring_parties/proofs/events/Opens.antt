@@ -35,6 +35,7 @@ use Rattle.gm_member.proofs.OthersStand.{refresh_others}
 use Rattle.ring_rules.proofs.work.OwnEnds.{OwnEnds}
 use Rattle.gm_member.proofs.RefreshStands.{current_lt, kept_lt, door_stays, refresh_stands}
 use Rattle.ring_parties.specs.Ends.{OutSeen, InSeen, PacketShown, Carries, HasRested, opened_out, fresh_in, HaveMet}
+use Rattle.ordered_link.specs.Names.{PairName}
 use Rattle.ring_parties.specs.Parties.{Shown, Deposit, Parties, node_at, with_node}
 use Rattle.ring_parties.specs.Standing.{Places, MemberStands, StandIn, Stand, HaveDone, SendersKnow, name_of, is_to, has_out, has_in}
 use Rattle.ring_parties.specs.Replaced.{ReplacedFits, DroppedHaveMet, OthersHaveMet, moved_by, sender_to}
@@ -148,7 +149,7 @@ pub record HasOpened (initial : ℕ) (u u' : World) (x v : ℕ) (view : Group) (
   pub new_waits : (z : ℕ) → z < size u → cond (waits_for u' z (length u.links)) (length u.links ∷ []) [] ≡ filter (is_to u' z) waits
 
 -- The old members stand in u', one of them as another; so do the links that waited, and each link is carried.
-pub record StandOpened (initial : ℕ) (u u' : World) (x v : ℕ) (view : Group) (waits : List ℕ) (q : Parties) (b : Shown) (replaced : Option (LinkName × OutSeen)) : Type 0 where
+pub record StandOpened (ring : PairName) (initial : ℕ) (u u' : World) (x v : ℕ) (view : Group) (waits : List ℕ) (q : Parties) (b : Shown) (replaced : Option (LinkName × OutSeen)) : Type 0 where
   pub places : Places
   pub each : (z : ℕ) → 1 ≤ z → z < size u → MemberStands u' places z (node_at (with_node q (x - 1) b) (z - 1))
   pub before : List ℕ
@@ -156,7 +157,7 @@ pub record StandOpened (initial : ℕ) (u u' : World) (x v : ℕ) (view : Group)
   pub deposits : q.deposits ≡ map (waiting_at u' places) before
   pub within : (s : ℕ) → is_in s before ≡ true → s < length u.links
   pub to_old : (z : ℕ) → filter (is_to u' z) before ≡ filter (is_to u z) before
-  pub end_is : places.ins (length u.links) ≡ fresh_in initial
+  pub end_is : places.ins (length u.links) ≡ fresh_in ring initial
   pub named : name_of u' (length u.links) ≡ ring_link x (right_of view x) v
   pub carry : (s : ℕ) → s < length u'.links → has_in u' s ≡ true → Carries u' initial (link_at u' s) (places.outs s) (places.ins s)
   pub dropped : DroppedHaveMet u' places replaced
@@ -165,7 +166,7 @@ pub record StandOpened (initial : ℕ) (u u' : World) (x v : ℕ) (view : Group)
   pub known : SendersKnow u' places
 
 -- so they have moved where they stand at these places
-pub opened_moves : {initial : ℕ} {u u' : World} {x v : ℕ} {view : Group} {waits : List ℕ} {q q' : Parties} {b : Shown} {replaced : Option (LinkName × OutSeen)} → (d : StandOpened initial u u' x v view waits q b replaced) → StandIn initial u' q' d.places → StandMoved initial x u' q' replaced
+pub opened_moves : {ring : PairName} {initial : ℕ} {u u' : World} {x v : ℕ} {view : Group} {waits : List ℕ} {q q' : Parties} {b : Shown} {replaced : Option (LinkName × OutSeen)} → (d : StandOpened ring initial u u' x v view waits q b replaced) → StandIn initial u' q' d.places → StandMoved initial x u' q' replaced
 opened_moves d stand = record { places = d.places; stand = stand; dropped = d.dropped; fits = d.fits; met = d.met; known = d.known }
 
 -- the replaced link holds its end
@@ -175,11 +176,11 @@ ended_carries w initial l o o' n goes = end_carries initial w l (ended Moved l) 
     ended_by : Option Ending → Option Ending
     ended_by k = (ended Moved (record l { ending = k })).ending
 
-pub opens_parts : (initial : ℕ) (u u' : World) (x v : ℕ) (view : Group) (first : Packet) (kept : ℕ → Bool) (waits : List ℕ) (q : Parties) (b : Shown) (replaced : Option (LinkName × OutSeen)) → HasOpened initial u u' x v view first kept waits → Stand initial u q → filter (waits_at x) q.deposits ≡ []
-    → b ≡ record { held = refreshed_held (node_at q (x - 1)).held view; ends = record (looked_ends view (node_at q (x - 1))) { out = Some (opened_out (node_at q (x - 1)).held.initial (first_sent (node_at q (x - 1)) view)) } }
+pub opens_parts : (ring : PairName) (initial : ℕ) (u u' : World) (x v : ℕ) (view : Group) (first : Packet) (kept : ℕ → Bool) (waits : List ℕ) (q : Parties) (b : Shown) (replaced : Option (LinkName × OutSeen)) → HasOpened initial u u' x v view first kept waits → Stand initial u q → filter (waits_at x) q.deposits ≡ [] → ring.slots ≡ (node_at q (x - 1)).held.initial + 1
+    → b ≡ record { held = refreshed_held (node_at q (x - 1)).held view; ends = record (looked_ends view (node_at q (x - 1))) { out = Some (opened_out ring (node_at q (x - 1)).held.initial (first_sent (node_at q (x - 1)) view)) } }
     → Replacing (node_at q (x - 1)).held.id (node_at q (x - 1)).held.out (node_at q (x - 1)).ends.out replaced
-    → StandOpened initial u u' x v view waits q b replaced
-opens_parts initial u u' x v view first kept waits q b replaced k st none eb el = record {
+    → StandOpened ring initial u u' x v view waits q b replaced
+opens_parts ring initial u u' x v view first kept waits q b replaced k st none wide eb el = record {
   places = p';
   each = λ z c m. each_set u u' q p p' x b st.stand.count k.some k.is_member mine other z c m;
   before = p.deposits;
@@ -187,7 +188,7 @@ opens_parts initial u u' x v view first kept waits q b replaced k st none eb el 
   deposits = st.stand.deposits ∙ sym pending_deposits;
   within = st.stand.within;
   to_old = to_old;
-  end_is = placed_same p.ins n n_new ∙ ap fresh_in initial_at;
+  end_is = placed_same p.ins n n_new ∙ ap (fresh_in ring) initial_at;
   named = name_new;
   carry = carries;
   dropped = dropped;
@@ -223,10 +224,10 @@ opens_parts initial u u' x v view first kept waits q b replaced k st none eb el 
     outs = old.0
 
     o_new : OutSeen
-    o_new = opened_out a.held.initial (first_sent a view)
+    o_new = opened_out ring a.held.initial (first_sent a view)
 
     n_new : InSeen
-    n_new = fresh_in a.held.initial
+    n_new = fresh_in ring a.held.initial
 
     p' : Places
     p' = record { outs = placed outs n o_new; ins = placed p.ins n n_new; deposits = p.deposits ++ waits }
@@ -322,15 +323,15 @@ opens_parts initial u u' x v view first kept waits q b replaced k st none eb el 
     initial_at : a.held.initial ≡ initial
     initial_at = ap (λ (j : Held). j.initial) held_at ∙ k.initial_is
 
-    opens : (sent : PacketShown) → sent ≡ record { view = first.version; lines = lines_in u' no_sending first } → Carries u' initial (link_to u x (right_of view x) v first) (opened_out initial sent) (fresh_in initial)
-    opens sent e = opened_carries initial u' (link_to u x (right_of view x) v first) (Some sent ∷ []) initial (ap (λ s. Some s ∷ []) e) refl refl (omega arith)
+    opens : (sent : PacketShown) → sent ≡ record { view = first.version; lines = lines_in u' no_sending first } → Carries u' initial (link_to u x (right_of view x) v first) (opened_out ring initial sent) (fresh_in ring initial)
+    opens sent e = opened_carries ring initial u' (link_to u x (right_of view x) v first) (Some sent ∷ []) initial (wide ∙ ap (λ i. i + 1) initial_at) (ap (λ s. Some s ∷ []) e) refl refl
 
     carries_new : Carries u' initial (link_at u' n) (p'.outs n) (p'.ins n)
     carries_new =
         subst (λ t. Carries u' initial t (p'.outs n) (p'.ins n)) (sym k.new)
         (subst (λ t. Carries u' initial (link_to u x (right_of view x) v first) t (p'.ins n)) (sym (placed_same outs n o_new))
         (subst (Carries u' initial (link_to u x (right_of view x) v first) o_new) (sym (placed_same p.ins n n_new))
-        (subst (λ i. Carries u' initial (link_to u x (right_of view x) v first) (opened_out i (first_sent a view)) (fresh_in i)) (sym initial_at)
+        (subst (λ i. Carries u' initial (link_to u x (right_of view x) v first) (opened_out ring i (first_sent a view)) (fresh_in ring i)) (sym initial_at)
         (opens (first_sent a view) sent_is))))
 
     carries : (s : ℕ) → s < length u'.links → has_in u' s ≡ true → Carries u' initial (link_at u' s) (p'.outs s) (p'.ins s)
@@ -487,12 +488,12 @@ refresh_opened initial u x v k e = record {
         ∙ waits_new u x v x y.current v k.may k.good k.may.upto (kept_lt n (λ s. is_kept u (link_at u s) v) (member_at u x).current (current_lt u x n (member_at u x).current (λ s i. (k.own.current x s i).0)))
         ∙ to x)
 
-pub opens_on : (initial : ℕ) (u : World) (x v : ℕ) (q : Parties) (b : Shown) (new : Deposit) (replaced : Option (LinkName × OutSeen)) → IsLooking initial u x v → sends_right u x v ≡ false → Stand initial u q → filter (waits_at x) q.deposits ≡ []
-    → b ≡ record { held = refreshed_held (node_at q (x - 1)).held (view_in u v); ends = record (looked_ends (view_in u v) (node_at q (x - 1))) { out = Some (opened_out (node_at q (x - 1)).held.initial (first_sent (node_at q (x - 1)) (view_in u v))) } }
-    → new ≡ record { name = ring_link (node_at q (x - 1)).held.id (right_of (view_in u v) (node_at q (x - 1)).held.id) (view_in u v).version; end = Some (fresh_in (node_at q (x - 1)).held.initial) }
+pub opens_on : (ring : PairName) (initial : ℕ) (u : World) (x v : ℕ) (q : Parties) (b : Shown) (new : Deposit) (replaced : Option (LinkName × OutSeen)) → IsLooking initial u x v → sends_right u x v ≡ false → Stand initial u q → filter (waits_at x) q.deposits ≡ [] → ring.slots ≡ (node_at q (x - 1)).held.initial + 1
+    → b ≡ record { held = refreshed_held (node_at q (x - 1)).held (view_in u v); ends = record (looked_ends (view_in u v) (node_at q (x - 1))) { out = Some (opened_out ring (node_at q (x - 1)).held.initial (first_sent (node_at q (x - 1)) (view_in u v))) } }
+    → new ≡ record { name = ring_link (node_at q (x - 1)).held.id (right_of (view_in u v) (node_at q (x - 1)).held.id) (view_in u v).version; end = Some (fresh_in ring (node_at q (x - 1)).held.initial) }
     → Replacing (node_at q (x - 1)).held.id (node_at q (x - 1)).held.out (node_at q (x - 1)).ends.out replaced
     → StandMoved initial x (refreshed u x v) (record (with_node q (x - 1) b) { deposits = q.deposits ++ new ∷ [] }) replaced
-opens_on initial u x v q b new replaced k e st none eb en el = subst (λ w. StandMoved initial x w (record (with_node q (x - 1) b) { deposits = q.deposits ++ new ∷ [] }) replaced) (sym is_opened) (opened_moves d (record {
+opens_on ring initial u x v q b new replaced k e st none wide eb en el = subst (λ w. StandMoved initial x w (record (with_node q (x - 1) b) { deposits = q.deposits ++ new ∷ [] }) replaced) (sym is_opened) (opened_moves d (record {
   count = (let same : length (set q.nodes (x - 1) b) ≡ length q.nodes = length-set q.nodes (x - 1) b in omega (arith, same, many, st.stand.count));
   each = λ z c m. d.each z c (omega (arith, m, many));
   views = st.stand.views;
@@ -515,8 +516,8 @@ opens_on initial u x v q b new replaced k e st none eb en el = subst (λ w. Stan
     is_opened : refreshed u x v ≡ u'
     is_opened = refresh_opens u x v k.may.is_member e
 
-    d : StandOpened initial u u' x v (view_in u v) (n ∷ []) q b replaced
-    d = opens_parts initial u u' x v (view_in u v) (next_packet (moved_to u x v) no_sending) (kept_to u v) (n ∷ []) q b replaced (refresh_opened initial u x v k e) st none eb el
+    d : StandOpened ring initial u u' x v (view_in u v) (n ∷ []) q b replaced
+    d = opens_parts ring initial u u' x v (view_in u v) (next_packet (moved_to u x v) no_sending) (kept_to u v) (n ∷ []) q b replaced (refresh_opened initial u x v k e) st none wide eb el
 
     many : size u' ≡ size u
     many = length-set u.members x (sending_member u x v n)
@@ -529,8 +530,8 @@ opens_on initial u x v q b new replaced k e st none eb en el = subst (λ w. Stan
 
     new_is : new ≡ waiting_at u' d.places n
     new_is = en
-        ∙ ap (λ (j : Held). record { name = ring_link j.id (right_of (view_in u v) j.id) (view_in u v).version; end = Some (fresh_in j.initial) }) held_at
-        ∙ ap (λ i. record { name = ring_link x (right_of (view_in u v) x) (view_in u v).version; end = Some (fresh_in i) }) k.initial_is
-        ∙ ap (λ i. record { name = ring_link x (right_of (view_in u v) x) i; end = Some (fresh_in initial) }) (view_version u v k.good k.may.upto)
-        ∙ ap (λ i. record { name = i; end = Some (fresh_in initial) }) (sym d.named)
+        ∙ ap (λ (j : Held). record { name = ring_link j.id (right_of (view_in u v) j.id) (view_in u v).version; end = Some (fresh_in ring j.initial) }) held_at
+        ∙ ap (λ i. record { name = ring_link x (right_of (view_in u v) x) (view_in u v).version; end = Some (fresh_in ring i) }) k.initial_is
+        ∙ ap (λ i. record { name = ring_link x (right_of (view_in u v) x) i; end = Some (fresh_in ring initial) }) (view_version u v k.good k.may.upto)
+        ∙ ap (λ i. record { name = i; end = Some (fresh_in ring initial) }) (sym d.named)
         ∙ ap (λ i. record { name = name_of u' n; end = Some i }) (sym d.end_is)

@@ -5,7 +5,7 @@ use Rattle.std.specs.List.{filter}
 use Rattle.ring_names.specs.declared.numbers.CreditSpec.{CreditSpec}
 use Rattle.ring_names.specs.declared.reason.Reason.{Reason}
 use Rattle.ring_names.specs.declared.reason.Reason.TheVariants as reason
-use Rattle.ordered_link.specs.declared.plain.PlainIn.{PlainIn}
+use Rattle.ordered_link.specs.declared.ring.RingIn.{RingIn}
 use Rattle.group_view.specs.Since.{view_at}
 use Rattle.ring_rules.specs.Refusal.{refuse_if, or_else}
 use Rattle.ring_rules.specs.declared.event.Event.{Event}
@@ -125,7 +125,7 @@ module _ (credit : CreditSpec) (names : List (List ℕ)) (events : List Event) (
   pub erase_reads_unknown : (origin : List ℕ) → id_named q origin ≡ None → up_refused (node_at q i).held (Some reason.UnknownMember) ≡ refused_as w x (Changes (change.Erase origin))
   erase_reads_unknown origin = nobody_reads origin (event.erase_refusal w x)
 
-  module _ (nodes : List Party) (r : Registry (PlainIn Load)) (behind : List Deposit) (is : q ≡ parties nodes r behind) where
+  module _ (nodes : List Party) (r : Registry (RingIn Load)) (behind : List Deposit) (is : q ≡ parties nodes r behind) where
     rs : StandsIn w r
     rs = registrar_stands credit.initial w nodes r behind s.stand.places (subst (λ p. StandIn credit.initial w p s.stand.places) is s.stand.stand)
 

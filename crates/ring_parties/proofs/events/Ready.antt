@@ -1,7 +1,7 @@
 -- A member of a cluster whose ends have met is ready for its calls.
 use Rattle.std.proofs.Common.{◌≡◌, ℕ, ◌+◌, ◌-◌, ◌<◌, ◌≤◌, Bool, true, false, List, [], ◌∷◌, ◌++◌, length, sum, Option, Some, None, is_some, refl, sym, ap, subst, ◌∙◌, arith, append-nil}
 use Rattle.std.specs.Prelude.{option_map, MatchOption, ⊤}
-use Rattle.std.proofs.lemmas.List.{length-append}
+use Rattle.std.proofs.lemmas.List.{length-append, append_cancel_left}
 use Rattle.ring_names.specs.declared.numbers.CreditSpec.{CreditSpec}
 use Rattle.ring_rules.specs.declared.phase.Ending.{Ending}
 use Rattle.ring_rules.specs.Machine.{World, Packet, Sending, member_at, link_at, runs, runs_phase}
@@ -20,14 +20,14 @@ use Rattle.ring_parties.proofs.events.OneEvent.{met_both, held_but_door}
 
 -- ---- ends that have met, or rest
 
--- nothing waits in the out end, and the in end knows all slots that are free on the way back
+-- the in end knows all that was put, and all slots that are free on the way back
 pub record Settled (o : OutSeen) (n : InSeen) : Type 0 where
-  pub moved : o.waiting ≡ []
-  pub room : n.free + length o.back + length n.given ≡ n.initial
+  pub items : n.taken ++ n.items ≡ o.put
+  pub room : n.free + length n.given ≡ n.initial + length o.gained
 
 pub settled : (b : Bool) (o : OutSeen) (n : InSeen) → HaveDone b o n → Settled o n
-settled true o n h = record { moved = h.moved; room = omega (arith, h.room, ap length h.given) }
-settled false o n h = record { moved = h.moved; room = h.room }
+settled true o n h = record { items = h.items; room = omega (arith, h.room, ap length h.grants, length-append o.gained o.back) }
+settled false o n h = record { items = h.items; room = h.room }
 
 -- of each open link
 pub all_settled : (w : World) (p : Places) (s : ℕ) → AllHaveMet w p → s < length w.links → has_in w s ≡ true → Settled (p.outs s) (p.ins s)
@@ -35,7 +35,7 @@ all_settled w p s met sl has = settled (has_out w s) (p.outs s) (p.ins s) (met s
 
 -- then the in end has all items of the link
 pub settled_items : (initial : ℕ) (w : World) (s : ℕ) (o : OutSeen) (n : InSeen) → Settled o n → Carries w initial (link_at w s) o n → n.items ≡ items_in w (link_at w s)
-settled_items initial w s o n k c = sym (append-nil n.items) ∙ ap (λ xs. n.items ++ xs) (sym k.moved) ∙ c.items
+settled_items initial w s o n k c = append_cancel_left n.taken n.items (items_in w (link_at w s)) (k.items ∙ sym c.items)
 
 -- ---- the link on which it sends
 
@@ -59,7 +59,7 @@ first_is_packet w before (x ∷ ks) e k rest h = omega arith
 in_room : (credit : CreditSpec) (w : World) (s : ℕ) (o : OutSeen) (n : InSeen) → LinkIsKept credit.initial credit.more (link_at w s) → length (link_at w s).flow.grants ≤ sum (link_at w s).flow.grants → Settled o n → Carries w credit.initial (link_at w s) o n → (k : PacketShown) (rest : List (Option PacketShown)) → n.items ≡ Some k ∷ rest → 0 < n.free
 in_room credit w s o n kept few k0 c k rest first =
     let some : 0 < length (link_at w s).packets = first_is_packet w (link_at w s).had (link_at w s).packets (link_at w s).ending k rest (sym (settled_items credit.initial w s o n k0 c) ∙ first) in
-    let grants : length o.back + length n.given ≡ length (link_at w s).flow.grants = sym (length-append o.back n.given) ∙ ap length c.grants in
+    let grants : length n.given ≡ length o.gained + length (link_at w s).flow.grants = ap length (sym c.grants) ∙ length-append o.gained (link_at w s).flow.grants in
     omega (arith, some, grants, kept.kept.kept, few, k0.room, c.fits.initial, c.initial)
 
 -- ---- the member

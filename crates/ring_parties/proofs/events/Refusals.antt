@@ -1,7 +1,8 @@
 -- What a member of a cluster whose ends have met refuses, the ring refuses, for the same reason.
-use Rattle.std.proofs.Common.{◌≡◌, ℕ, ◌-◌, ◌<◌, ◌≤◌, true, List, [], ◌∷◌, ◌++◌, length, Option, Some, None, refl, sym, ap, ◌∙◌, append-nil}
+use Rattle.std.proofs.Common.{◌≡◌, ℕ, ◌-◌, ◌<◌, ◌≤◌, true, List, [], ◌∷◌, ◌++◌, length, Option, Some, None, refl, sym, ap, ◌∙◌}
 use Rattle.std.proofs.lemmas.Option.{none-some}
 use Rattle.std.specs.Prelude.{⊤, option_map, slice_index_or}
+use Rattle.std.proofs.lemmas.List.{append_cancel_left}
 use Rattle.ring_names.specs.declared.numbers.CreditSpec.{CreditSpec}
 use Rattle.ring_names.specs.declared.reason.Reason.{Reason}
 use Rattle.ring_names.specs.declared.reason.Reason.TheVariants as reason
@@ -110,7 +111,7 @@ module _ (credit : CreditSpec) (w : World) (q : Parties) (x : ℕ) (h : IsLawful
       let has : has_in w s ≡ true = out_is_open credit w x s h run e in
       let c : Carries w credit.initial (link_at w s) (p.outs s) (p.ins s) = st.stand.carry s sl has in
       let both : HaveMet (p.outs s) (p.ins s) = met_both (has_out w s) (p.outs s) (p.ins s) (out_has credit w x s h e) (st.met s sl has) in
-      let all : (p.outs s).back ≡ (link_at w s).flow.grants = sym (append-nil (p.outs s).back) ∙ ap (λ gs. (p.outs s).back ++ gs) (sym both.given) ∙ c.grants in
+      let all : (p.outs s).back ≡ (link_at w s).flow.grants = append_cancel_left (p.outs s).gained (p.outs s).back (link_at w s).flow.grants (both.grants ∙ sym c.grants) in
       ap (λ gs. refuse_if (is_empty gs) reason.NoGrant) all
 
   -- who has stopped gains nothing, and who is up does by its link

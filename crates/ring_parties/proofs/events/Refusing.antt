@@ -6,7 +6,7 @@ use Rattle.std.proofs.Math.Bool.{or-false}
 use Rattle.ring_names.specs.declared.reason.Reason.{Reason}
 use Rattle.ring_names.specs.declared.reason.Reason.TheVariants as reason
 use Rattle.ring_names.specs.declared.numbers.CreditSpec.{CreditSpec}
-use Rattle.ordered_link.specs.declared.plain.PlainIn.{PlainIn}
+use Rattle.ordered_link.specs.declared.ring.RingIn.{RingIn}
 use Rattle.activity.specs.declared.packet.Load.{Load}
 use Rattle.group_view.specs.Link.{is_ring}
 use Rattle.group_view.specs.View.{Group, is_live}
@@ -226,12 +226,12 @@ telling_refuses credit w q x keeps code inner kept some lt st = ap (λ r. refuse
 -- ---- the registrar, and what is shown of it
 
 -- the same links wait
-same_waits : (d x since : ℕ) (ls : List (WaitingLink (PlainIn Load))) → waits_from (map waiting_link_of (map deposit_shown ls ++ [])) d x since ≡ waits_from ls d x since
+same_waits : (d x since : ℕ) (ls : List (WaitingLink (RingIn Load))) → waits_from (map waiting_link_of (map deposit_shown ls ++ [])) d x since ≡ waits_from ls d x since
 same_waits d x since [] = refl
 same_waits d x since (a ∷ ls) = ap (λ b. is_ring_from d x since a || b) (same_waits d x since ls)
 
 -- it has the same conditions for a mark
-pub mark_same : (nodes : List Party) (r : Registry (PlainIn Load)) (m : Shown) (d : ℕ) → mark_refused (office_of (parties nodes r [])) m (Some d) ≡ mark_refused r m (Some d)
+pub mark_same : (nodes : List Party) (r : Registry (RingIn Load)) (m : Shown) (d : ℕ) → mark_refused (office_of (parties nodes r [])) m (Some d) ≡ mark_refused r m (Some d)
 mark_same nodes r m d =
     let g : Group = view_at r.views m.held.view.version in
     let x : ℕ = m.held.id in
@@ -245,7 +245,7 @@ mark_same nodes r m d =
     (same_waits d x (since_in g x) r.links)
 
 -- and for any question for a view
-pub ask_same : (nodes : List Party) (r : Registry (PlainIn Load)) (m : Shown) (what : Ask) → ask_refused (office_of (parties nodes r [])) m what ≡ ask_refused r m what
+pub ask_same : (nodes : List Party) (r : Registry (RingIn Load)) (m : Shown) (what : Ask) → ask_refused (office_of (parties nodes r [])) m what ≡ ask_refused r m what
 ask_same nodes r m (ask.Mark dead) = mark_same nodes r m dead.0
 ask_same nodes r m (ask.Admit name) = refl
 ask_same nodes r m (ask.Erase origin) = refl
@@ -254,7 +254,7 @@ ask_same nodes r m ask.Refresh = refl
 ask_same nodes r m ask.Collect = refl
 
 -- and makes the same view
-pub view_for_same : (nodes : List Party) (r : Registry (PlainIn Load)) (x : ℕ) (what : Ask) → view_for (office_of (parties nodes r [])) x what ≡ view_for r x what
+pub view_for_same : (nodes : List Party) (r : Registry (RingIn Load)) (x : ℕ) (what : Ask) → view_for (office_of (parties nodes r [])) x what ≡ view_for r x what
 view_for_same nodes r x (ask.Mark dead) = refl
 view_for_same nodes r x (ask.Admit name) = refl
 view_for_same nodes r x (ask.Erase origin) = refl

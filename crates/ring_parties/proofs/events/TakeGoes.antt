@@ -1,5 +1,5 @@
 -- Where a member has taken a packet, the parties stand in the state after the ring's take.
-use Rattle.std.proofs.Common.{◌≡◌, ◌≢◌, ℕ, ◌+◌, ◌<◌, ◌≤◌, Bool, true, false, cond, List, [], ◌∷◌, ◌++◌, length, drop, get_or, Option, Some, None, refl, sym, ap, subst, ◌∙◌, ⊎_elim, arith}
+use Rattle.std.proofs.Common.{◌≡◌, ◌≢◌, ℕ, ◌+◌, ◌<◌, ◌≤◌, Bool, true, false, cond, List, [], ◌∷◌, ◌++◌, length, drop, get_or, Option, Some, None, refl, sym, ap, subst, ◌∙◌, ⊎_elim, arith, append_assoc}
 use Rattle.std.specs.Prelude.{option_map}
 use Rattle.std.proofs.lemmas.Bool.{false≢true, cases_eq}
 use Rattle.std.proofs.lemmas.List.{get_or-set_same, get_or-set_other}
@@ -27,9 +27,9 @@ use Rattle.gm_member.proofs.Fit.{IsFit}
 use Rattle.gm_member.proofs.BeginStands.{BeginsFrom, begin_stands}
 use Rattle.gm_member.proofs.TakeStands.{TakesFrom, take_stands}
 use Rattle.gm_member.proofs.Others.{take_others, begin_others}
-use Rattle.ring_parties.specs.Ends.{PacketShown, OutSeen, InSeen, packet_in, packets_in, end_items, Carries, HasRested}
+use Rattle.ring_parties.specs.Ends.{PacketShown, OutSeen, InSeen, packet_in, packets_in, end_items, items_in, Carries, HasRested}
 use Rattle.ring_parties.specs.Parties.{Shown, Parties, node_at, with_node, Keeps}
-use Rattle.ring_parties.specs.Standing.{Places, MemberStands, Stand}
+use Rattle.ring_parties.specs.Standing.{Places, MemberStands, Stand, has_in, has_out}
 use Rattle.ring_parties.specs.Acting.{sent_of, due_of, TakesIn, Acts}
 use Rattle.ring_parties.proofs.lists.Grants.{append-with_grant}
 use Rattle.ring_parties.proofs.work.Lawful.{IsLawfulAt}
@@ -37,7 +37,7 @@ use Rattle.ring_parties.proofs.meetings.NamedLinks.{current_has}
 use Rattle.ring_parties.proofs.standing.Writing.{placed_same, placed_other}
 use Rattle.ring_parties.proofs.standing.Showing.{with_ins}
 use Rattle.ring_parties.proofs.standing.Frames.{SameWays, link_ways, member_ways, ways_both, same_of, same_in, Does, StandMoved}
-use Rattle.ring_parties.proofs.events.OneEvent.{link_there, made_of, stands_at, held_but_door}
+use Rattle.ring_parties.proofs.events.OneEvent.{link_there, made_of, stands_at, held_but_door, done_known}
 use Rattle.ring_parties.proofs.meetings.Known.{not_left}
 use Rattle.ring_parties.proofs.events.Steps.{goes_so, ways_leave, same_phases, carries_at, steps, ways_stand}
 
@@ -48,18 +48,20 @@ drop_first : (w : World) (before : Sending) (ks : List Packet) (es : List (Optio
 drop_first w before [] es e = absurd (false≢true (sym e))
 drop_first w before (k ∷ ks) es e = refl
 
-pub take_carries : (initial : ℕ) (w : World) (l : Link) (o : OutSeen) (n n' : InSeen) (k : PacketShown) (due : Option ℕ) → is_empty l.packets ≡ false → due ≡ grant_due l.flow.receiver → TakesIn due n k n' → Carries w initial l o n → Carries w initial (popped l) o n'
-take_carries initial w l o n n' k due some ed t c =
-    let one_less : length n.items ≡ length n'.items + 1 = omega (arith, ap length t.items) in
+pub take_carries : (initial : ℕ) (w : World) (l : Link) (o : OutSeen) (n n' : InSeen) (k : PacketShown) (due : Option ℕ) → is_empty l.packets ≡ false → due ≡ grant_due l.flow.receiver → n.items ≡ items_in w l → TakesIn due n k n' → Carries w initial l o n → Carries w initial (popped l) o n'
+take_carries initial w l o n n' k due some ed known t c =
+    let left : n'.items ≡ items_in w (popped l) = ap (drop 1) (sym t.items ∙ known) ∙ drop_first w l.had l.packets (end_items l.ending) some in
     record {
-      items = ap (λ xs. drop 1 (xs ++ o.waiting)) (sym t.items) ∙ ap (drop 1) c.items ∙ drop_first w l.had l.packets (end_items l.ending) some;
+      items =
+          ap (λ xs. xs ++ items_in w (popped l)) t.taken ∙ append_assoc n.taken (Some k ∷ []) (items_in w (popped l))
+          ∙ ap (λ xs. n.taken ++ Some k ∷ xs) (sym left) ∙ ap (λ xs. n.taken ++ xs) (sym t.items ∙ known) ∙ c.items;
       grants =
-          ap (λ xs. o.back ++ xs) t.given ∙ append-with_grant o.back n.given due ∙ ap (λ xs. with_grant xs due) c.grants
-          ∙ ap (with_grant l.flow.grants) ed;
+          append-with_grant o.gained l.flow.grants (grant_due l.flow.receiver) ∙ ap (with_grant (o.gained ++ l.flow.grants)) (sym ed)
+          ∙ ap (λ gs. with_grant gs due) c.grants ∙ sym t.given;
       late = t.late;
       ended = c.ended;
       initial = c.initial;
-      fits = record { initial = t.initial ∙ c.fits.initial; slots = omega (arith, c.fits.slots); room = omega (arith, c.fits.room, t.room) };
+      fits = record { initial = t.initial ∙ c.fits.initial; ring = t.ring ∙ c.fits.ring; slots = c.fits.slots };
     }
 
 -- the packet that is taken is the oldest
@@ -70,12 +72,15 @@ first_packet w before (packet ∷ ks) es k xs some e =
     let same : k ≡ record { view = packet.version; lines = lines_in w before packet } = cc in
     ap (λ (a : PacketShown). a.lines) same
 
-pub take_lines : (initial : ℕ) (w : World) (s : ℕ) (o : OutSeen) (n n' : InSeen) (k : PacketShown) (due : Option ℕ) → is_empty (link_at w s).packets ≡ false → TakesIn due n k n' → Carries w initial (link_at w s) o n → k.lines ≡ lines_in w (link_at w s).had (oldest (link_at w s))
-take_lines initial w s o n n' k due some t c = first_packet w (link_at w s).had (link_at w s).packets (end_items (link_at w s).ending) k (n'.items ++ o.waiting) some (ap (λ xs. xs ++ o.waiting) (sym t.items) ∙ c.items)
+pub take_lines : (initial : ℕ) (w : World) (s : ℕ) (o : OutSeen) (n n' : InSeen) (k : PacketShown) (due : Option ℕ) → is_empty (link_at w s).packets ≡ false → n.items ≡ items_in w (link_at w s) → TakesIn due n k n' → k.lines ≡ lines_in w (link_at w s).had (oldest (link_at w s))
+take_lines initial w s o n n' k due some known t = first_packet w (link_at w s).had (link_at w s).packets (end_items (link_at w s).ending) k n'.items some (sym t.items ∙ known)
 
 -- the receiver rests as it did
 pub take_rested : (o : OutSeen) (n n' : InSeen) (k : PacketShown) (due : Option ℕ) → TakesIn due n k n' → HasRested o n → HasRested o n'
-take_rested o n n' k due t r = record { moved = r.moved; room = omega (arith, r.room, t.room, t.initial) }
+take_rested o n n' k due t r = record {
+  items = ap (λ xs. xs ++ n'.items) t.taken ∙ append_assoc n.taken (Some k ∷ []) n'.items ∙ ap (λ xs. n.taken ++ xs) (sym t.items) ∙ r.items;
+  room = omega (arith, r.room, t.room, t.initial);
+}
 
 -- ---- what the member holds
 
@@ -128,7 +133,9 @@ take_steps credit w i s q b n k y st h t takes e =
     let a : MemberStands w p x m = stands_at credit.initial w q p i st.stand t.is_member in
     let due : Option ℕ = due_of m.held in
     let due_is : due ≡ grant_due (link_at w s).flow.receiver = ap due_of (held_but_door w p x m a) ∙ ap (λ c. at_some (option_map (incoming_in w) c) None (λ (g : Incoming). grant_due g.counted)) t.current in
-    let lines : k.lines ≡ lines_in w (link_at w s).had (oldest (link_at w s)) = take_lines credit.initial w s (p.outs s) (p.ins s) n (sent_of k) due t.has takes (st.stand.carry s sl (current_has credit w x s h t.current)) in
+    let has : has_in w s ≡ true = current_has credit w x s h t.current in
+    let known : (p.ins s).items ≡ items_in w (link_at w s) = done_known (has_out w s) credit.initial w s (p.outs s) (p.ins s) (st.met s sl has) (st.stand.carry s sl has) in
+    let lines : k.lines ≡ lines_in w (link_at w s).had (oldest (link_at w s)) = take_lines credit.initial w s (p.outs s) (p.ins s) n (sent_of k) due t.has known takes in
     let its : Does w w' x m b m.ends.out (Some n) = record {
       does = λ (g : Held). took_held g k;
       but_door = λ g ds. took_door g ds k;
@@ -149,7 +156,7 @@ take_steps credit w i s q b n k y st h t takes e =
       outs = λ j _. refl;
       ins = λ j ne. other j (λ (same : j ≡ s). ne (t.current ∙ ap Some (sym same)));
       carry = λ j _ c. carries_at credit.initial w w' p p' s l (same_of (λ (a : Member). a.log) w x y t.is_member t.same.3) (get_or-set_same w.links s l no_link sl) (λ j ne. (other_link j ne, refl, other j ne))
-          (λ before. subst (Carries w credit.initial l (p.outs s)) (sym here) (take_carries credit.initial w (link_at w s) (p.outs s) (p.ins s) n (sent_of k) due t.has due_is takes before)) j c;
+          (λ before. subst (Carries w credit.initial l (p.outs s)) (sym here) (take_carries credit.initial w (link_at w s) (p.outs s) (p.ins s) n (sent_of k) due t.has due_is known takes before)) j c;
       rests = λ j o r. ⊎_elim
           (λ (same : j ≡ s).
           let r0 : HasRested o (p.ins s) = subst (λ c. HasRested o (p.ins c)) same r in

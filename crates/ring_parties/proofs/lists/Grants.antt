@@ -4,9 +4,10 @@ use Rattle.credit_flow.specs.Link.{with_grant}
 use Rattle.std.specs.Prelude.{All}
 use Rattle.std.proofs.lemmas.Grind.{common_steps}
 use Rattle.std.proofs.lemmas.List.Elements.{All-push}
-use Rattle.ordered_link.specs.declared.plain.PlainIn.{PlainIn}
+use Rattle.ordered_link.specs.declared.ring.RingIn.{RingIn}
+use Rattle.rtrb.specs.Ring.{sent, known_free, SameProducer}
 use Rattle.ordered_link.specs.Waiting.{Sends}
-use Rattle.ordered_link.specs.Steps.{PlainSends}
+use Rattle.ordered_link.specs.RingSteps.{RingSends}
 use Rattle.activity.specs.declared.packet.Load.{Load}
 use Rattle.gm_member.specs.Loads.{GrantsIf}
 
@@ -49,6 +50,13 @@ one_sent given given' late' g e s = ⊎_elim
     (λ (x : (late' ≡ None) × (d : ℕ) × (Some g ≡ Some d) × (given' ≡ given ++ d ∷ [])). let d : x.1 ≡ g = cc (x.2) in x.3 ∙ ap (λ k. given ++ k ∷ []) d)
     s
 
-pub granted : (due : Option ℕ) (a b : PlainIn Load) → 0 < a.free → a.late ≡ None → GrantsIf due PlainSends a b → (b.items ≡ a.items) × (b.given.items ≡ with_grant a.given.items due) × (b.late ≡ None) × (length b.given.items + b.free ≡ length a.given.items + a.free) × (b.initial ≡ a.initial)
-granted None a b free late e = (ap (λ x. x.items) e, ap (λ x. x.given.items) e, ap (λ x. x.late) e ∙ late, ap (λ x. length x.given.items + x.free) e, ap (λ x. x.initial) e)
-granted (Some g) a b free late (items, sends, room, gone, initial) = (items, one_sent a.given.items b.given.items b.late g (gone free) sends, gone free, room, initial)
+pub granted : (due : Option ℕ) (a b : RingIn Load) → 0 < known_free a.back → a.late ≡ None → GrantsIf due RingSends a b → (b.items ≡ a.items) × (sent b.back ≡ with_grant (sent a.back) due) × (b.late ≡ None) × (length (sent b.back) + known_free b.back ≡ length (sent a.back) + known_free a.back) × (b.initial ≡ a.initial) × SameProducer a.back b.back
+granted None a b free late e = (
+  ap (λ x. x.items) e,
+  ap (λ x. sent x.back) e,
+  ap (λ x. x.late) e ∙ late,
+  ap (λ x. length (sent x.back) + known_free x.back) e,
+  ap (λ x. x.initial) e,
+  ((ap (λ x. x.back.end.words) e, ap (λ x. x.back.end.slots) e, ap (λ x. x.back.end.names) e, ap (λ x. x.back.end.heap) e), ap (λ x. x.back.capacity) e),
+)
+granted (Some g) a b free late (items, same, sends, room, gone, initial) = (items, one_sent (sent a.back) (sent b.back) b.late g (gone free) sends, gone free, room, initial, same)

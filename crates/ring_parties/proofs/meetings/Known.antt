@@ -1,7 +1,7 @@
 -- Of a link that its receiver has left, the sender knows every grant that was given.
-use Rattle.std.proofs.Common.{◌≡◌, ◌≢◌, ℕ, ◌<◌, Bool, true, false, ◌++◌, length, refl, sym, ap, ◌∙◌, arith}
+use Rattle.std.proofs.Common.{◌≡◌, ◌≢◌, ℕ, ◌<◌, Bool, true, false, length, refl, sym, ap, ◌∙◌, arith}
 use Rattle.std.proofs.lemmas.Bool.{false≢true}
-use Rattle.std.proofs.lemmas.List.{append-nil}
+use Rattle.std.proofs.lemmas.List.{append_cancel_left}
 use Rattle.ring_rules.specs.Machine.{World, link_at}
 use Rattle.ring_parties.specs.Ends.{OutSeen, InSeen, HaveMet}
 use Rattle.ring_parties.specs.Parties.{Parties}
@@ -24,7 +24,7 @@ all_know initial w q st s l o = by_in (has_in w s) refl
     by_in : (b : Bool) → has_in w s ≡ b → Knows w p s
     by_in true i =
         let met : HaveMet (p.outs s) (p.ins s) = met_both (has_out w s) (p.outs s) (p.ins s) o (st.met s l i) in
-        sym (append-nil (p.outs s).back) ∙ ap (λ gs. (p.outs s).back ++ gs) (sym met.given) ∙ (st.stand.carry s l i).grants
+        append_cancel_left (p.outs s).gained (p.outs s).back (link_at w s).flow.grants (met.grants ∙ sym (st.stand.carry s l i).grants)
     by_in false i = st.known s l i o
 
 -- senders still know where they have the out ends that they had, and of each link that its receiver has left by then the same grants have come

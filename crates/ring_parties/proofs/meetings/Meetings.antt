@@ -3,7 +3,7 @@ use Rattle.std.proofs.Common.{◌≡◌, ℕ, ◌+◌, ◌-◌, ◌<◌, ◌≤�
 use Rattle.std.specs.Prelude.{option_map, slice_index_or}
 use Rattle.std.specs.List.{filter}
 use Rattle.std.proofs.lemmas.Bool.{and_parts, false_from_ne_true}
-use Rattle.std.proofs.lemmas.List.{append-nil, length-map}
+use Rattle.std.proofs.lemmas.List.{length-map, length-append}
 use Rattle.std.proofs.lemmas.Option.{slice_get-map, get_or_from_slice_get, slice_get-get_or}
 use Rattle.ring_names.specs.declared.numbers.CreditSpec.{CreditSpec}
 use Rattle.group_view.specs.Ring.{is_in}
@@ -16,7 +16,8 @@ use Rattle.gm_member.specs.Held.{Held}
 use Rattle.gm_member.specs.Shown.{in_name_of, in_end}
 use Rattle.gm_member.specs.Stands.{incoming_in, waits_for}
 use Rattle.gm_member.proofs.DoorLists.{in_places}
-use Rattle.ring_parties.specs.Ends.{OutSeen, InSeen, Carries, HaveMet, HasRested, Meets}
+use Rattle.ring_parties.specs.Ends.{OutSeen, InSeen, items_in, Carries, HaveMet, HasRested, Meets}
+use Rattle.ordered_link.specs.Names.{PairName}
 use Rattle.ring_parties.specs.Parties.{Shown, Deposit, Parties, no_deposit, node_at}
 use Rattle.ring_parties.specs.Standing.{Places, MemberStands, StandIn, name_of, is_to, has_in}
 use Rattle.ring_parties.proofs.work.Lawful.{IsLawfulAt}
@@ -29,21 +30,21 @@ use Rattle.group_view.specs.declared.link.LinkName.{LinkName}
 -- ends that carry a link carry it when they have met
 pub meets_carry : (w : World) (initial : ℕ) (l : Link) (o : OutSeen) (n : InSeen) (o' : OutSeen) (n' : InSeen) → Meets o n o' n' → Carries w initial l o n → Carries w initial l o' n'
 meets_carry w initial l o n o' n' m c = record {
-  items = ap (λ xs. n'.items ++ xs) m.met.moved ∙ append-nil n'.items ∙ m.items ∙ c.items;
-  grants = ap (λ xs. o'.back ++ xs) m.met.given ∙ append-nil o'.back ∙ m.back ∙ c.grants;
-  late = m.late ∙ c.late;
+  items = ap (λ xs. xs ++ items_in w l) m.taken ∙ c.items ∙ sym m.put;
+  grants = ap (λ gs. gs ++ l.flow.grants) m.gained ∙ c.grants ∙ sym (m.given c.late).1;
+  late = (m.given c.late).0;
   ended = m.ended ∙ c.ended;
   initial = m.out_initial ∙ c.initial;
   fits = record {
     initial = m.in_initial ∙ c.fits.initial ∙ sym m.out_initial;
-    slots = omega (arith, ap length m.met.moved, m.met.free);
-    room = omega (arith, ap length m.met.given, m.met.room, m.in_initial, m.out_initial, c.fits.initial);
+    ring = m.in_ring ∙ c.fits.ring ∙ sym m.out_ring;
+    slots = ap (λ (r : PairName). r.slots) m.out_ring ∙ c.fits.slots ∙ ap (λ i. i + 1) (sym m.out_initial);
   };
 }
 
 -- of ends that have met, the out end may be dropped
 pub met_rests : (o : OutSeen) (n : InSeen) → HaveMet o n → HasRested o n
-met_rests o n m = record { moved = m.moved; room = omega (arith, ap length m.given, m.room) }
+met_rests o n m = record { items = m.items; room = omega (arith, m.room, ap length m.grants, length-append o.gained o.back) }
 
 -- ---- where the in end is found
 

@@ -8,8 +8,8 @@ use Rattle.std.proofs.lemmas.List.{map-set, set-set, length-map, length-append, 
 use Rattle.std.proofs.lemmas.Option.{slice_get-get_or, slice_get-map, get_or_from_slice_get, slice_get_within, none-some, same_Some}
 use Rattle.group_view.specs.declared.link.LinkName.{LinkName}
 use Rattle.group_view.specs.View.{Group}
-use Rattle.ordered_link.specs.declared.plain.PlainOut.{PlainOut}
-use Rattle.ordered_link.specs.declared.plain.PlainIn.{PlainIn}
+use Rattle.ordered_link.specs.declared.ring.RingOut.{RingOut}
+use Rattle.ordered_link.specs.declared.ring.RingIn.{RingIn}
 use Rattle.ring_rules.proofs.rings.Maps.{mapped_rewrite}
 use Rattle.registrar.specs.declared.waiting_link.WaitingLink.{WaitingLink}
 use Rattle.registrar.specs.Registry.{Registry}
@@ -36,11 +36,11 @@ lent_some i (inr c) = c
 abbrev with_by : {O I : Type 0} → Bool → Ends O I → ℕ → Option I → Ends O I
 with_by b e i x = if b then record e { link = x } else record e { door = set e.door i x }
 
-seen_by : (b : Bool) (e : Ends (PlainOut Load) (PlainIn Load)) (i : ℕ) → (if b then (ends_seen e).link else get_or (ends_seen e).door i None) ≡ option_map in_seen (if b then e.link else get_or e.door i None)
+seen_by : (b : Bool) (e : Ends (RingOut Load) (RingIn Load)) (i : ℕ) → (if b then (ends_seen e).link else get_or (ends_seen e).door i None) ≡ option_map in_seen (if b then e.link else get_or e.door i None)
 seen_by true e i = refl
 seen_by false e i = get_or_map-same (option_map in_seen) e.door i None
 
-given_by : (b : Bool) (e : Ends (PlainOut Load) (PlainIn Load)) (i : ℕ) (x : PlainIn Load) → ends_seen (with_by b (with_by b e i None) i (Some x)) ≡ with_by b (ends_seen e) i (Some (in_seen x))
+given_by : (b : Bool) (e : Ends (RingOut Load) (RingIn Load)) (i : ℕ) (x : RingIn Load) → ends_seen (with_by b (with_by b e i None) i (Some x)) ≡ with_by b (ends_seen e) i (Some (in_seen x))
 given_by true e i x = refl
 given_by false e i x = ap (λ d. record (ends_seen e) { door = d }) (ap (map (option_map in_seen)) (set-set e.door i None (Some x)) ∙ map-set (option_map in_seen) e.door i (Some x))
 
@@ -55,12 +55,12 @@ lent_by true e i = refl
 lent_by false e i = set_none e.door i
 
 -- one that was lent by its name can be given back
-pub node_lent : (m a : ANode) (name : LinkName) (i : PlainIn Load) → (place : ℕ) × IsFirst (held_of m) name place × LendsIn place m a (Some i) → IsLentNamed name a
+pub node_lent : (m a : ANode) (name : LinkName) (i : RingIn Load) → (place : ℕ) × IsFirst (held_of m) name place × LendsIn place m a (Some i) → IsLentNamed name a
 node_lent m a name i (place, first, lent) =
     (place, subst (λ h. IsFirst h name place) (sym lent.held) first, ap (λ e. in_end e place) lent.ends ∙ lent_by (nat_eq place 0) (ends_of m) (place - 1))
 
 -- one that was lent by its name has met the out end, and was given back
-pub node_met : (m a n : ANode) (name : LinkName) (o o' : OutSeen) (i j : PlainIn Load) → (place : ℕ) × IsFirst (held_of m) name place × LendsIn place m a (Some i) → GivesNamed name j a n → Meets o (in_seen i) o' (in_seen j) → NodeMeets (shown_of m) name o (shown_of m) (shown_of n) o'
+pub node_met : (m a n : ANode) (name : LinkName) (o o' : OutSeen) (i j : RingIn Load) → (place : ℕ) × IsFirst (held_of m) name place × LendsIn place m a (Some i) → GivesNamed name j a n → Meets o (in_seen i) o' (in_seen j) → NodeMeets (shown_of m) name o (shown_of m) (shown_of n) o'
 node_met m a n name o o' i j (place, first, lent) given meets =
     let back = given place (subst (λ h. IsFirst h name place) (sym lent.held) first) in
     record {
@@ -75,32 +75,32 @@ node_met m a n name o o' i j (place, first, lent) given meets =
 -- ---- links that wait at the registrar
 
 -- one as it is shown
-shown_deposits : (links : List (WaitingLink (PlainIn Load))) (place : ℕ) (s : WaitingLink (PlainIn Load)) (d : Deposit) → slice_get links place ≡ Some s → get_or (map deposit_shown links) place d ≡ deposit_shown s
+shown_deposits : (links : List (WaitingLink (RingIn Load))) (place : ℕ) (s : WaitingLink (RingIn Load)) (d : Deposit) → slice_get links place ≡ Some s → get_or (map deposit_shown links) place d ≡ deposit_shown s
 shown_deposits links place s d is = get_or_from_slice_get (map deposit_shown links) place (deposit_shown s) d (slice_get-map deposit_shown links place ∙ ap (option_map deposit_shown) is)
 
 -- none of those that wait has the name
-none_waits : (r : Registry (PlainIn Load)) (name : LinkName) → NoneWaits r name → NoneIsDeposited (map deposit_shown r.links) name
+none_waits : (r : Registry (RingIn Load)) (name : LinkName) → NoneWaits r name → NoneIsDeposited (map deposit_shown r.links) name
 none_waits r name none = λ place d within e.
-    let s : WaitingLink (PlainIn Load) = get_or r.links place (record { name = name; link = None }) in
+    let s : WaitingLink (RingIn Load) = get_or r.links place (record { name = name; link = None }) in
     let is : slice_get r.links place ≡ Some s = slice_get-get_or r.links place (record { name = name; link = None }) (omega (arith, length-map r.links deposit_shown)) in
-    none place (ap (option_map (λ (x : WaitingLink (PlainIn Load)). x.name)) is ∙ ap Some (sym (ap (λ (x : Deposit). x.name) (shown_deposits r.links place s d is)) ∙ e))
+    none place (ap (option_map (λ (x : WaitingLink (RingIn Load)). x.name)) is ∙ ap Some (sym (ap (λ (x : Deposit). x.name) (shown_deposits r.links place s d is)) ∙ e))
 
 -- the end of one that may meet an out end may meet it
-may_meet_waiting : (links : List (WaitingLink (PlainIn Load))) (name : LinkName) (o : OutSeen) (place : ℕ) (s : WaitingLink (PlainIn Load)) → DepositsMayMeet (map deposit_shown links) name o → slice_get links place ≡ Some s → s.name ≡ name → IsToMeet o (option_map in_seen s.link)
+may_meet_waiting : (links : List (WaitingLink (RingIn Load))) (name : LinkName) (o : OutSeen) (place : ℕ) (s : WaitingLink (RingIn Load)) → DepositsMayMeet (map deposit_shown links) name o → slice_get links place ≡ Some s → s.name ≡ name → IsToMeet o (option_map in_seen s.link)
 may_meet_waiting links name o place s may is named =
     let at : get_or (map deposit_shown links) place (no_deposit name) ≡ deposit_shown s = shown_deposits links place s (no_deposit name) is in
     subst (λ (d : Deposit). IsToMeet o d.end) at (may place (omega (arith, length-map links deposit_shown, slice_get_within links place s is)) (ap (λ (x : Deposit). x.name) at ∙ named))
 
 -- where nothing is lent no link has the name
-pub deposit_none : (r a : Registry (PlainIn Load)) (name : LinkName) (o : OutSeen) → DepositsMayMeet (map deposit_shown r.links) name o → LendsDeposit name r None a → NoneIsDeposited (map deposit_shown r.links) name × (a ≡ r)
+pub deposit_none : (r a : Registry (RingIn Load)) (name : LinkName) (o : OutSeen) → DepositsMayMeet (map deposit_shown r.links) name o → LendsDeposit name r None a → NoneIsDeposited (map deposit_shown r.links) name × (a ≡ r)
 deposit_none r a name o may (inl none) = (none_waits r name none.0, none.2)
 deposit_none r a name o may (inr (place, s, first, lent, is, again)) =
     let k : IsToMeet o (option_map in_seen s.link) = may_meet_waiting r.links name o place s may first.there first.named in
     absurd (none-some k.0 (ap (option_map in_seen) lent ∙ k.1))
 
-module _ (r a : Registry (PlainIn Load)) (name : LinkName) (i : PlainIn Load) where
+module _ (r a : Registry (RingIn Load)) (name : LinkName) (i : RingIn Load) where
   abbrev IsLentDeposit : Type 0
-  IsLentDeposit = (place : ℕ) × (s : WaitingLink (PlainIn Load)) × IsFirstDeposit r name place s × (Some i ≡ s.link) × (a ≡ with_end_at r place s None) × IsFirstDeposit a name place (record s { link = None })
+  IsLentDeposit = (place : ℕ) × (s : WaitingLink (RingIn Load)) × IsFirstDeposit r name place s × (Some i ≡ s.link) × (a ≡ with_end_at r place s None) × IsFirstDeposit a name place (record s { link = None })
 
   -- an end that was lent by its name may meet the out end
   pub deposit_may : (o : OutSeen) → DepositsMayMeet (map deposit_shown r.links) name o → IsLentDeposit → Fits o (in_seen i)
@@ -109,18 +109,18 @@ module _ (r a : Registry (PlainIn Load)) (name : LinkName) (i : PlainIn Load) wh
       subst (Fits o) (same_Some k.0 (in_seen i) (sym k.1 ∙ ap (option_map in_seen) (sym lent))) k.2
 
   -- it was given back, and nothing else changed
-  given_back : (n : Registry (PlainIn Load)) (j : PlainIn Load) (place : ℕ) (s : WaitingLink (PlainIn Load)) → a ≡ with_end_at r place s None → IsFirstDeposit a name place (record s { link = None }) → GivesDeposit name a j n → n ≡ with_end_at r place s (Some j)
+  given_back : (n : Registry (RingIn Load)) (j : RingIn Load) (place : ℕ) (s : WaitingLink (RingIn Load)) → a ≡ with_end_at r place s None → IsFirstDeposit a name place (record s { link = None }) → GivesDeposit name a j n → n ≡ with_end_at r place s (Some j)
   given_back n j place s is again given =
       given place (record s { link = None }) again ∙ ap (λ x. with_end_at x place s (Some j)) is
       ∙ ap (λ ls. record r { links = ls }) (set-set r.links place (record s { link = None }) (record s { link = Some j }))
 
-  pub deposit_rest : (n : Registry (PlainIn Load)) (j : PlainIn Load) → IsLentDeposit → GivesDeposit name a j n → (n.views ≡ r.views) × (n.stopped ≡ r.stopped)
+  pub deposit_rest : (n : Registry (RingIn Load)) (j : RingIn Load) → IsLentDeposit → GivesDeposit name a j n → (n.views ≡ r.views) × (n.stopped ≡ r.stopped)
   deposit_rest n j (place, s, first, lent, is, again) given =
       let back : n ≡ with_end_at r place s (Some j) = given_back n j place s is again given in
-      (ap (λ (x : Registry (PlainIn Load)). x.views) back, ap (λ (x : Registry (PlainIn Load)). x.stopped) back)
+      (ap (λ (x : Registry (RingIn Load)). x.views) back, ap (λ (x : Registry (RingIn Load)). x.stopped) back)
 
   -- and had met the out end
-  pub deposit_met : (n : Registry (PlainIn Load)) (o o' : OutSeen) (j : PlainIn Load) → IsLentDeposit → GivesDeposit name a j n → Meets o (in_seen i) o' (in_seen j) → DepositMeets (map deposit_shown r.links) name o (map deposit_shown n.links) o'
+  pub deposit_met : (n : Registry (RingIn Load)) (o o' : OutSeen) (j : RingIn Load) → IsLentDeposit → GivesDeposit name a j n → Meets o (in_seen i) o' (in_seen j) → DepositMeets (map deposit_shown r.links) name o (map deposit_shown n.links) o'
   deposit_met n o o' j (place, s, first, lent, is, again) given meets =
       let at : get_or (map deposit_shown r.links) place (no_deposit name) ≡ deposit_shown s = shown_deposits r.links place s (no_deposit name) first.there in
       record {
@@ -129,7 +129,7 @@ module _ (r a : Registry (PlainIn Load)) (name : LinkName) (i : PlainIn Load) wh
         named = ap (λ (x : Deposit). x.name) at ∙ first.named;
         met = in_seen j;
         meets = (in_seen i, ap (λ (x : Deposit). x.end) at ∙ ap (option_map in_seen) (sym lent), meets);
-        shows = ap (λ (x : Registry (PlainIn Load)). map deposit_shown x.links) (given_back n j place s is again given)
+        shows = ap (λ (x : Registry (RingIn Load)). map deposit_shown x.links) (given_back n j place s is again given)
             ∙ map-set deposit_shown r.links place (record s { link = Some j })
             ∙ ap (λ x. set (map deposit_shown r.links) place (record { name = x; end = Some (in_seen j) })) first.named;
       }
@@ -198,7 +198,7 @@ member_stays xs i x y l is e = mapped_rewrite shown_in xs i x y l is (e ∙ ap s
 abbrev of_parts : List Shown → List Group → List ℕ → List Deposit → Parties
 of_parts nodes views stopped deposits = record { nodes = nodes; views = views; stopped = stopped; deposits = deposits }
 
-parties_same : (a b : List Shown) (r r' : Registry (PlainIn Load)) (deposits post' : List Deposit) → b ≡ a → r'.views ≡ r.views → r'.stopped ≡ r.stopped → post' ≡ deposits → of_parts b r'.views r'.stopped post' ≡ of_parts a r.views r.stopped deposits
+parties_same : (a b : List Shown) (r r' : Registry (RingIn Load)) (deposits post' : List Deposit) → b ≡ a → r'.views ≡ r.views → r'.stopped ≡ r.stopped → post' ≡ deposits → of_parts b r'.views r'.stopped post' ≡ of_parts a r.views r.stopped deposits
 parties_same a b r r' deposits post' e1 e2 e3 e4 =
     ap (λ x. of_parts x r'.views r'.stopped post') e1
     ∙ ap (λ x. of_parts a x r'.stopped post') e2
@@ -206,18 +206,18 @@ parties_same a b r r' deposits post' e1 e2 e3 e4 =
     ∙ ap (of_parts a r.views r.stopped) e4
 
 -- the link waited at the registrar
-pub registrar_met : (nodes nodes' : List Party) (r r' : Registry (PlainIn Load)) (back : List Deposit) (name : LinkName) (o o1 o' : OutSeen) → map shown_in nodes' ≡ map shown_in nodes → o1 ≡ o → (r'.views ≡ r.views) × (r'.stopped ≡ r.stopped) → DepositMeets (map deposit_shown r.links) name o1 (map deposit_shown r'.links) o' → MeetsIn (parties nodes r back) name o (parties nodes r back) (parties nodes' r' back) o'
+pub registrar_met : (nodes nodes' : List Party) (r r' : Registry (RingIn Load)) (back : List Deposit) (name : LinkName) (o o1 o' : OutSeen) → map shown_in nodes' ≡ map shown_in nodes → o1 ≡ o → (r'.views ≡ r.views) × (r'.stopped ≡ r.stopped) → DepositMeets (map deposit_shown r.links) name o1 (map deposit_shown r'.links) o' → MeetsIn (parties nodes r back) name o (parties nodes r back) (parties nodes' r' back) o'
 registrar_met nodes nodes' r r' back name o o1 o' same is others m = inr (inl (record {
   deposits = map deposit_shown r'.links ++ back;
   meets = front_meets (map deposit_shown r.links) back (map deposit_shown r'.links) name o o' (subst (λ x. DepositMeets (map deposit_shown r.links) name x (map deposit_shown r'.links) o') is m);
   parties = parties_same (map shown_in nodes) (map shown_in nodes') r r' (map deposit_shown r'.links ++ back) (map deposit_shown r'.links ++ back) same others.0 others.1 refl;
 }))
 
-pub pending_may : (nodes : List Party) (r : Registry (PlainIn Load)) (back : List Deposit) (name : LinkName) (o o1 o2 : OutSeen) → MayMeet (parties nodes r back) name o → o1 ≡ o → o2 ≡ o1 → DepositsMayMeet back name o2
+pub pending_may : (nodes : List Party) (r : Registry (RingIn Load)) (back : List Deposit) (name : LinkName) (o o1 o2 : OutSeen) → MayMeet (parties nodes r back) name o → o1 ≡ o → o2 ≡ o1 → DepositsMayMeet back name o2
 pending_may nodes r back name o o1 o2 may e1 e2 = subst (DepositsMayMeet back name) (sym (e2 ∙ e1)) (back_may (map deposit_shown r.links) back name o may.deposits)
 
 -- it waited behind that, or nowhere
-pub pending_met : (b : Bool) (nodes nodes' : List Party) (r r' : Registry (PlainIn Load)) (back back' : List Deposit) (name : LinkName) (o o1 o2 o' : OutSeen) → map shown_in nodes' ≡ map shown_in nodes → r' ≡ r → o1 ≡ o → o2 ≡ o1
+pub pending_met : (b : Bool) (nodes nodes' : List Party) (r r' : Registry (RingIn Load)) (back back' : List Deposit) (name : LinkName) (o o1 o2 o' : OutSeen) → map shown_in nodes' ≡ map shown_in nodes → r' ≡ r → o1 ≡ o → o2 ≡ o1
     → HasNone (get_or (map shown_in nodes) (name.to.0 - 1) no_shown).held name → NoneIsDeposited (map deposit_shown r.links) name
     → (b ≡ true → DepositMeets back name o2 back' o') → (b ≡ false → NoneIsDeposited back name) → (b ≡ false → back' ≡ back) → (b ≡ false → o' ≡ o2)
     → MeetsIn (parties nodes r back) name o (parties nodes r back) (parties nodes' r' back') o'

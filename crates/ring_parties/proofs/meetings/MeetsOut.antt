@@ -4,7 +4,7 @@ use Rattle.std.specs.Prelude.{◌⊎◌, IsSome, option_map, if◌then◌else◌
 use Rattle.std.proofs.lemmas.Bool.{cases_eq}
 use Rattle.std.proofs.lemmas.List.{set-set, set_comm, length-set, length-map, map-set, get_or-map, set-get_or, get_or-set_same, get_or-set_other}
 use Rattle.group_view.specs.declared.link.LinkName.{LinkName}
-use Rattle.ordered_link.specs.declared.plain.PlainIn.{PlainIn}
+use Rattle.ordered_link.specs.declared.ring.RingIn.{RingIn}
 use Rattle.registrar.specs.Registry.{Registry}
 use Rattle.activity.specs.declared.packet.Load.{Load}
 use Rattle.gm_member.specs.Held.{Held, Outgoing}
@@ -202,7 +202,7 @@ meets_many q q' name o o' m = ⊎_elim
     b)
     m
 
-pub still_inside : (ns ms : List Party) (i : ℕ) (y : Party) (r r' : Registry (PlainIn Load)) (back back' : List Deposit) (name : LinkName) (o o' : OutSeen) → i < length ns → MeetsIn (parties (set ns i y) r back) name o (parties (set ns i y) r back) (parties ms r' back') o' → i < length ms
+pub still_inside : (ns ms : List Party) (i : ℕ) (y : Party) (r r' : Registry (RingIn Load)) (back back' : List Deposit) (name : LinkName) (o o' : OutSeen) → i < length ns → MeetsIn (parties (set ns i y) r back) name o (parties (set ns i y) r back) (parties ms r' back') o' → i < length ms
 still_inside ns ms i y r r' back back' name o o' l m =
     omega (arith, l, meets_many (parties (set ns i y) r back) (parties ms r' back') name o o' m, length-map ms shown_in, length-map (set ns i y) shown_in, length-set ns i y)
 
@@ -211,11 +211,11 @@ still_inside ns ms i y r r' back back' name o o' l m =
 shown_at : (ns : List Party) (i : ℕ) (x : Party) → i < length ns → get_or (map shown_in ns) i no_shown ≡ shown_in (get_or ns i x)
 shown_at ns i x l = get_or-map shown_in ns i x no_shown l
 
-lent_parties : (ns : List Party) (i : ℕ) (x y : Party) (r : Registry (PlainIn Load)) (back : List Deposit) → i < length ns → shown_in y ≡ lent_out (shown_in (get_or ns i x)) → parties (set ns i y) r back ≡ lending (parties ns r back) i
+lent_parties : (ns : List Party) (i : ℕ) (x y : Party) (r : Registry (RingIn Load)) (back : List Deposit) → i < length ns → shown_in y ≡ lent_out (shown_in (get_or ns i x)) → parties (set ns i y) r back ≡ lending (parties ns r back) i
 lent_parties ns i x y r back l e =
     ap (λ ms. record (parties ns r back) { nodes = ms }) (map-set shown_in ns i y ∙ ap (set (map shown_in ns) i) (e ∙ ap lent_out (sym (shown_at ns i x l))))
 
-given_parties : (ns : List Party) (i : ℕ) (x y : Party) (r : Registry (PlainIn Load)) (back : List Deposit) (o : OutSeen) → i < length ns → shown_in y ≡ with_out (shown_in (get_or ns i x)) o → parties (set ns i y) r back ≡ with_node (parties ns r back) i (with_out (node_at (parties ns r back) i) o)
+given_parties : (ns : List Party) (i : ℕ) (x y : Party) (r : Registry (RingIn Load)) (back : List Deposit) (o : OutSeen) → i < length ns → shown_in y ≡ with_out (shown_in (get_or ns i x)) o → parties (set ns i y) r back ≡ with_node (parties ns r back) i (with_out (node_at (parties ns r back) i) o)
 given_parties ns i x y r back o l e =
     ap (λ ms. record (parties ns r back) { nodes = ms }) (map-set shown_in ns i y ∙ ap (set (map shown_in ns) i) (e ∙ ap (λ m. with_out m o) (sym (shown_at ns i x l))))
 
@@ -242,7 +242,7 @@ has_lent ns i x y name o l is named there lent = record {
 }
 
 -- an out end that was lent may meet
-pub out_may : (ns : List Party) (i : ℕ) (x y : Party) (r : Registry (PlainIn Load)) (back : List Deposit) (name : LinkName) (o : OutSeen) → MayMeetOut (parties ns r back) i → HasLent ns i x y name o → MayMeet (parties (set ns i y) r back) name o
+pub out_may : (ns : List Party) (i : ℕ) (x y : Party) (r : Registry (RingIn Load)) (back : List Deposit) (name : LinkName) (o : OutSeen) → MayMeetOut (parties ns r back) i → HasLent ns i x y name o → MayMeet (parties (set ns i y) r back) name o
 out_may ns i x y r back name o may h =
     let l = h.within in
     let many : i < length (map shown_in ns) = rw length-map l in
@@ -250,7 +250,7 @@ out_may ns i x y r back name o may h =
     (lent_may (parties ns r back) i name o many (may name o (named_at ns i x name l h.named) (there_at ns i x o l h.there)))
 
 -- the member still sends on the link, and hasn't its end
-pub out_away : (ns ms : List Party) (i : ℕ) (x y z : Party) (r r' : Registry (PlainIn Load)) (back back' : List Deposit) (name : LinkName) (o o' : OutSeen) → HasLent ns i x y name o → MeetsIn (parties (set ns i y) r back) name o (parties (set ns i y) r back) (parties ms r' back') o'
+pub out_away : (ns ms : List Party) (i : ℕ) (x y z : Party) (r r' : Registry (RingIn Load)) (back back' : List Deposit) (name : LinkName) (o o' : OutSeen) → HasLent ns i x y name o → MeetsIn (parties (set ns i y) r back) name o (parties (set ns i y) r back) (parties ms r' back') o'
     → ((shown_in (get_or ms i z)).held ≡ (shown_in (get_or ns i x)).held) × ((shown_in (get_or ms i z)).ends.out ≡ None)
 out_away ns ms i x y z r r' back back' name o o' h m =
     let l = h.within in
@@ -279,7 +279,7 @@ some_out h (Some l) name e = search rules
 pub out_sends : (a b : Held) (name : LinkName) → b ≡ a → out_name_of a ≡ Some name → IsSome b.out
 out_sends a b name same e = some_out b b.out name (ap out_name_of same ∙ e)
 
-pub out_met : (ns ms : List Party) (i : ℕ) (x y z v : Party) (r r' : Registry (PlainIn Load)) (back back' : List Deposit) (name : LinkName) (o o' : OutSeen) → HasLent ns i x y name o → MeetsIn (parties (set ns i y) r back) name o (parties (set ns i y) r back) (parties ms r' back') o' → shown_in v ≡ with_out (shown_in (get_or ms i z)) o'
+pub out_met : (ns ms : List Party) (i : ℕ) (x y z v : Party) (r r' : Registry (RingIn Load)) (back back' : List Deposit) (name : LinkName) (o o' : OutSeen) → HasLent ns i x y name o → MeetsIn (parties (set ns i y) r back) name o (parties (set ns i y) r back) (parties ms r' back') o' → shown_in v ≡ with_out (shown_in (get_or ms i z)) o'
     → MeetsOut i (parties ns r back) (parties (set ms i v) r' back')
 out_met ns ms i x y z v r r' back back' name o o' h m given =
     let l = h.within in
@@ -290,7 +290,7 @@ out_met ns ms i x y z v r r' back back' name o o' h m given =
     (subst (λ q. MeetsIn q name o q (parties ms r' back') o') (lent_parties ns i x y r back l h.lent) m))
 
 -- a member without an out end
-pub out_none : (ns : List Party) (i : ℕ) (x y : Party) (r : Registry (PlainIn Load)) (back : List Deposit) → i < length ns → (shown_in (get_or ns i x)).ends.out ≡ None → shown_in y ≡ shown_in (get_or ns i x) → MeetsOut i (parties ns r back) (parties (set ns i y) r back)
+pub out_none : (ns : List Party) (i : ℕ) (x y : Party) (r : Registry (RingIn Load)) (back : List Deposit) → i < length ns → (shown_in (get_or ns i x)).ends.out ≡ None → shown_in y ≡ shown_in (get_or ns i x) → MeetsOut i (parties ns r back) (parties (set ns i y) r back)
 out_none ns i x y r back l none same = inl (
   ap (λ (m : Shown). m.ends.out) (shown_at ns i x l) ∙ none,
   ap (λ ms. record (parties ns r back) { nodes = ms }) (map-set shown_in ns i y ∙ ap (set (map shown_in ns) i) (same ∙ sym (shown_at ns i x l)) ∙ set-get_or (map shown_in ns) i no_shown),

@@ -1,5 +1,5 @@
 -- The links whose out ends meet go to members: where the other end is looked for is a place among them.
-use Rattle.std.proofs.Common.{◌≡◌, ℕ, ◌-◌, ◌<◌, ◌≤◌, Bool, true, false, not, List, length, Option, Some, None, refl, sym, subst, ◌∙◌}
+use Rattle.std.proofs.Common.{◌≡◌, ℕ, ◌+◌, ◌-◌, ◌<◌, ◌≤◌, Bool, true, false, not, List, length, Option, Some, None, refl, sym, subst, ◌∙◌}
 use Rattle.std.proofs.lemmas.Option.{none-some}
 use Rattle.std.specs.Prelude.{option_map}
 use Rattle.ring_names.specs.declared.numbers.CreditSpec.{CreditSpec}
@@ -12,6 +12,7 @@ use Rattle.gm_member.specs.Held.{Held, sends_to}
 use Rattle.gm_member.specs.Shown.{When, out_name_of}
 use Rattle.gm_member.specs.Stands.{outgoing_in}
 use Rattle.ring_rules.proofs.work.OwnEnds.{OwnEnds}
+use Rattle.ordered_link.specs.Names.{PairName}
 use Rattle.ring_parties.specs.Ends.{OutSeen}
 use Rattle.ring_parties.specs.Parties.{Shown, Parties, node_at}
 use Rattle.ring_parties.specs.Standing.{Places, MemberStands, Stand, name_of}
@@ -58,6 +59,6 @@ replaced_goes_in credit w q q' v x name o g go a l st (b, new, how, is) = by_way
         (subst (λ e. Replacing x (option_map (outgoing_in w) (member_at w x).out) e (Some (name, o))) h.out
         (subst (λ (i : Held). Replacing i.id i.out m.ends.out (Some (name, o))) h.held k))
 
-    by_way : (A B C D : Type 0) (replaced : Option (LinkName × OutSeen)) → replaced ≡ Some (name, o) → (c : Bool) → When c (A × B × (replaced ≡ None)) × When (not c) (C × D × Replacing m.held.id m.held.out m.ends.out replaced) → GoesIn w name
+    by_way : (A B : Type 0) (C D : PairName → Type 0) (replaced : Option (LinkName × OutSeen)) → replaced ≡ Some (name, o) → (c : Bool) → When c (A × B × (replaced ≡ None)) × When (not c) ((ring : PairName) × (ring.slots ≡ m.held.initial + 1) × C ring × D ring × Replacing m.held.id m.held.out m.ends.out replaced) → GoesIn w name
     by_way A B C D replaced e true k = none_replaced w name replaced (name, o) e k.0.2
-    by_way A B C D replaced e false k = by_replaced (subst (Replacing m.held.id m.held.out m.ends.out) e k.1.2)
+    by_way A B C D replaced e false k = by_replaced (subst (Replacing m.held.id m.held.out m.ends.out) e k.1.4)

@@ -1,9 +1,9 @@
--- A member over plain ends that has collected the links that wait for it, by what it shows.
+-- A member over ring ends that has collected the links that wait for it, by what it shows.
 use Rattle.std.proofs.Common.{◌≡◌, ℕ, suc, Bool, true, false, cond, not, List, [], ◌∷◌, ◌++◌, length, map, Option, Some, None, refl, sym, ap, subst, ◌∙◌, arith}
 use Rattle.std.specs.Prelude.{◌&&◌, option_map}
 use Rattle.std.specs.List.{filter}
 use Rattle.std.proofs.lemmas.List.{append-nil, map-append}
-use Rattle.ordered_link.specs.declared.plain.PlainIn.{PlainIn}
+use Rattle.ordered_link.specs.declared.ring.RingIn.{RingIn}
 use Rattle.group_view.specs.Link.{is_ring}
 use Rattle.group_view.specs.declared.link.LinkKind.TheVariants.{Ring}
 use Rattle.group_view.specs.declared.link.LinkName.{LinkName}
@@ -24,14 +24,14 @@ use Rattle.ring_parties.proofs.deposits.Handing.{given_to, answered_links}
 -- ---- the links that the registrar gives
 
 -- they are all of the ring, where all that wait there are
-pub given_of_ring : (x : ℕ) (ls : List (WaitingLink (PlainIn Load))) → AreOfRing ls → filter is_ring_link (links_for x ls) ≡ links_for x ls
+pub given_of_ring : (x : ℕ) (ls : List (WaitingLink (RingIn Load))) → AreOfRing ls → filter is_ring_link (links_for x ls) ≡ links_for x ls
 given_of_ring x [] h = refl
 given_of_ring x (a ∷ ls) h = by_test (is_for x a) (given_of_ring x ls (λ k d l. h (suc k) d (omega arith))) (h 0 a (omega arith))
   where
-    one : (name : LinkName) (o : Option (PlainIn Load)) (rest : List (Deposited (PlainIn Load))) → name.kind ≡ Ring → filter is_ring_link rest ≡ rest → filter is_ring_link (deposited name o ++ rest) ≡ deposited name o ++ rest
+    one : (name : LinkName) (o : Option (RingIn Load)) (rest : List (Deposited (RingIn Load))) → name.kind ≡ Ring → filter is_ring_link rest ≡ rest → filter is_ring_link (deposited name o ++ rest) ≡ deposited name o ++ rest
     one name None rest e ih = ih
     one name (Some n) rest e ih =
-        let d : Deposited (PlainIn Load) = record { from = name.from; view = name.view; kind = name.kind; link = n } in
+        let d : Deposited (RingIn Load) = record { from = name.from; view = name.view; kind = name.kind; link = n } in
         ap (λ k. cond (is_ring k) (d ∷ filter is_ring_link rest) (filter is_ring_link rest)) e ∙ ap (λ ds. d ∷ ds) ih
 
     by_test : (b : Bool) → filter is_ring_link (links_for x ls) ≡ links_for x ls → a.name.kind ≡ Ring
@@ -40,7 +40,7 @@ given_of_ring x (a ∷ ls) h = by_test (is_for x a) (given_of_ring x ls (λ k d 
     by_test false ih e = ih
 
 -- where none waits for a member, none is given, and the others are all
-none_given : (x : ℕ) (ls : List (WaitingLink (PlainIn Load))) → length (filter (is_for x) ls) ≡ 0 → (filter (waits_at x) (map deposit_shown ls) ≡ []) × (beside x ls ≡ ls)
+none_given : (x : ℕ) (ls : List (WaitingLink (RingIn Load))) → length (filter (is_for x) ls) ≡ 0 → (filter (waits_at x) (map deposit_shown ls) ≡ []) × (beside x ls ≡ ls)
 none_given x [] e = (refl, refl)
 none_given x (a ∷ ls) e = by_test (is_for x a) refl (none_given x ls)
   where
@@ -51,24 +51,24 @@ none_given x (a ∷ ls) e = by_test (is_for x a) refl (none_given x ls)
         let rest = ih (sym (ap (λ b. length (cond b (a ∷ filter (is_for x) ls) (filter (is_for x) ls))) k) ∙ e) in
         (rest.0, ap (λ xs. a ∷ xs) rest.1)
 
-pub collects_none : (a : Shown) (r : Registry (PlainIn Load)) → length (filter (is_for a.held.id) r.links) ≡ 0 → Collects a a (filter (waits_at a.held.id) (map deposit_shown r.links))
+pub collects_none : (a : Shown) (r : Registry (RingIn Load)) → length (filter (is_for a.held.id) r.links) ≡ 0 → Collects a a (filter (waits_at a.held.id) (map deposit_shown r.links))
 collects_none a r e = subst (Collects a a) (sym (none_given a.held.id r.links e).0) (record {
   held = ap (λ ls. record a.held { door = ls }) (sym (append-nil a.held.door));
   ends = ap (λ es. record a.ends { door = es }) (sym (append-nil a.ends.door));
 })
 
-pub registrar_same : (x : ℕ) (r : Registry (PlainIn Load)) → length (filter (is_for x) r.links) ≡ 0 → r ≡ without_links r x
+pub registrar_same : (x : ℕ) (r : Registry (RingIn Load)) → length (filter (is_for x) r.links) ≡ 0 → r ≡ without_links r x
 registrar_same x r e = ap (λ ls. record r { links = ls }) (sym (none_given x r.links e).1)
 
 -- ---- what comes of them
 
 -- what a member has of them
-given_received : (h : Held) (x : ℕ) (ds : List (Deposited (PlainIn Load))) → map (arrived_in h) ds ≡ map (received h) (map (given_to x) ds)
+given_received : (h : Held) (x : ℕ) (ds : List (Deposited (RingIn Load))) → map (arrived_in h) ds ≡ map (received h) (map (given_to x) ds)
 given_received h x [] = refl
 given_received h x (d ∷ ds) = ap (λ ls. arrived_in h d ∷ ls) (given_received h x ds)
 
 -- those that join its door
-joins_both : (h : Held) (x : ℕ) (ds : List (Deposited (PlainIn Load))) → filter (joins h.view h.id) ds ≡ filter (λ d. is_kept_by h (given_to x d)) (filter is_ring_link ds)
+joins_both : (h : Held) (x : ℕ) (ds : List (Deposited (RingIn Load))) → filter (joins h.view h.id) ds ≡ filter (λ d. is_kept_by h (given_to x d)) (filter is_ring_link ds)
 joins_both h x [] = refl
 joins_both h x (d ∷ ds) = by_kind (is_ring_link d) (joins_both h x ds)
   where
@@ -79,7 +79,7 @@ joins_both h x (d ∷ ds) = by_kind (is_ring_link d) (joins_both h x ds)
     by_kind false ih = ih
 
 -- and their ends
-given_ends : (h : Held) (x : ℕ) (ds : List (Deposited (PlainIn Load))) → map (option_map in_seen) (map given_end (filter (λ d. is_kept_by h (given_to x d)) ds)) ≡ map (λ (d : Deposit). d.end) (filter (is_kept_by h) (map (given_to x) ds))
+given_ends : (h : Held) (x : ℕ) (ds : List (Deposited (RingIn Load))) → map (option_map in_seen) (map given_end (filter (λ d. is_kept_by h (given_to x d)) ds)) ≡ map (λ (d : Deposit). d.end) (filter (is_kept_by h) (map (given_to x) ds))
 given_ends h x [] = refl
 given_ends h x (d ∷ ds) = by_test (is_kept_by h (given_to x d)) (given_ends h x ds)
   where
@@ -90,7 +90,7 @@ given_ends h x (d ∷ ds) = by_test (is_kept_by h (given_to x d)) (given_ends h 
     by_test false ih = ih
 
 -- a member that asked for them, and has them
-collects_given : (m n : ANode) (x : ℕ) (ds : List (Deposited (PlainIn Load))) → m.asked ≡ false → (shown_of m).ends.old_ins ≡ [] → filter is_ring_link ds ≡ ds → held_of n ≡ asking_held (held_of m) → ends_of n ≡ ends_of m
+collects_given : (m n : ANode) (x : ℕ) (ds : List (Deposited (RingIn Load))) → m.asked ≡ false → (shown_of m).ends.old_ins ≡ [] → filter is_ring_link ds ≡ ds → held_of n ≡ asking_held (held_of m) → ends_of n ≡ ends_of m
     → Collects (shown_of m) (given_links n ds) (map (given_to x) ds)
 collects_given m n x ds free none ring held ends = record {
   held = ap (λ h. collected_held (answered_held h) (incoming_of h ds)) held
@@ -111,7 +111,7 @@ collects_given m n x ds free none ring held ends = record {
         (ap (λ es. map (option_map in_seen) (map given_end es)) (joins_both (held_of m) x ds ∙ ap (filter (λ d. is_kept_by (held_of m) (given_to x d))) ring) ∙ given_ends (held_of m) x ds)
 
 -- of all that wait for it
-pub collects_all : (m n : ANode) (r : Registry (PlainIn Load)) → m.asked ≡ false → (shown_of m).ends.old_ins ≡ [] → AreOfRing r.links → AreHere r.links → held_of n ≡ asking_held (held_of m) → ends_of n ≡ ends_of m
+pub collects_all : (m n : ANode) (r : Registry (RingIn Load)) → m.asked ≡ false → (shown_of m).ends.old_ins ≡ [] → AreOfRing r.links → AreHere r.links → held_of n ≡ asking_held (held_of m) → ends_of n ≡ ends_of m
     → Collects (shown_of m) (given_links n (links_for m.id.0 r.links)) (filter (waits_at m.id.0) (map deposit_shown r.links))
 collects_all m n r free none ring here held ends =
     subst (Collects (shown_of m) (given_links n (links_for m.id.0 r.links))) (answered_links m.id.0 r.links here)

@@ -1,9 +1,9 @@
 -- What stays where one member and one link are written: the doors, the links that are open, what the packets stand for, and how a member stands.
 use Rattle.gm_member.specs.Packets.{places}
-use Rattle.std.proofs.Common.{◌≡◌, ℕ, suc, ◌+◌, ◌<◌, Bool, true, cond, nat_eq, List, [], ◌∷◌, ◌++◌, length, map, Some, is_some, refl, sym, ap, subst, ◌∙◌, ◌≤◌, false, Option, None, arith, append_assoc, append-nil}
+use Rattle.std.proofs.Common.{◌≡◌, ℕ, suc, ◌+◌, ◌<◌, Bool, true, cond, nat_eq, List, [], ◌∷◌, ◌++◌, length, map, Some, is_some, refl, sym, ap, subst, ◌∙◌, false, Option, None, append_assoc, append-nil}
 use Rattle.std.specs.Prelude.{◌||◌, option_map}
 use Rattle.std.specs.List.{filter, range_with_len}
-use Rattle.std.proofs.lemmas.List.{length-set, length-append}
+use Rattle.std.proofs.lemmas.List.{length-set}
 use Rattle.credit_flow.specs.Credit.{none_taken}
 use Rattle.ring_rules.specs.Compact.{passed, before_next}
 use Rattle.ring_rules.specs.Machine.{World, Link, Member, Packet, Sending, no_link, no_member, numbers_at, member_at, link_at}
@@ -16,7 +16,8 @@ use Rattle.gm_member.specs.Stands.{incoming_in, waits_for, door_links, door_in, 
 use Rattle.gm_member.proofs.Places.{map-range_same}
 use Rattle.gm_member.proofs.Parts.{Seen, waits_seen, there_same}
 use Rattle.gm_member.proofs.DoorLists.{made_agree}
-use Rattle.ring_parties.specs.Ends.{PacketShown, OutSeen, InSeen, packet_in, packets_in, end_items, items_in, Carries, fresh_in}
+use Rattle.ring_parties.specs.Ends.{PacketShown, OutSeen, InSeen, packet_in, packets_in, end_items, items_in, Carries, Fits, fresh_in}
+use Rattle.ordered_link.specs.Names.{PairName}
 use Rattle.ring_parties.specs.Parties.{Shown, Parties}
 use Rattle.ring_parties.specs.Standing.{Places, MemberStands, name_of, is_to, has_out, has_in}
 use Rattle.ring_parties.specs.Replaced.{StandBetween, moved_by}
@@ -173,8 +174,8 @@ packets_many w before (k ∷ ks) = ap suc (packets_many w (passed k) ks)
 -- ends that carry a link carry it in another state where its packets stand for the same
 pub carries_still : (initial : ℕ) (w w' : World) (l l' : Link) (o : OutSeen) (n : InSeen) → packets_in w' l'.had l'.packets ≡ packets_in w l.had l.packets → l'.ending ≡ l.ending → l'.flow.grants ≡ l.flow.grants → Carries w initial l o n → Carries w' initial l' o n
 carries_still initial w w' l l' o n ep ee eg c = record {
-  items = c.items ∙ ap (λ ks. ks ++ end_items l.ending) (sym ep) ∙ ap (λ e. packets_in w' l'.had l'.packets ++ end_items e) (sym ee);
-  grants = c.grants ∙ sym eg;
+  items = ap (λ e. n.taken ++ (packets_in w' l'.had l'.packets ++ end_items e)) ee ∙ ap (λ ks. n.taken ++ (ks ++ end_items l.ending)) ep ∙ c.items;
+  grants = ap (λ gs. o.gained ++ gs) eg ∙ c.grants;
   late = c.late;
   ended = c.ended ∙ ap is_some (sym ee);
   initial = c.initial;
@@ -190,30 +191,34 @@ pub carries_same : (initial : ℕ) (w w' : World) (s : ℕ) (o : OutSeen) (n : I
 carries_same initial w w' s o n logs e c = subst (λ l. Carries w' initial l o n) (sym e) (carries_logs initial w w' (link_at w s) o n logs c)
 
 -- ends that have just opened carry a link on which these items stand, and for which nothing was given back
-pub opened_carries : (initial : ℕ) (w : World) (l : Link) (items : List (Option PacketShown)) (free : ℕ) → items ≡ items_in w l → l.flow.grants ≡ [] → l.ending ≡ None → length items + free ≤ initial + 1
-    → Carries w initial l (record { waiting = items; back = []; initial = initial; free = free; ended = false }) (fresh_in initial)
-opened_carries initial w l items free stand grants goes_on few = record {
-  items = stand;
-  grants = sym grants;
+pub opened_carries : (ring : PairName) (initial : ℕ) (w : World) (l : Link) (items : List (Option PacketShown)) (free : ℕ) → ring.slots ≡ initial + 1 → items ≡ items_in w l → l.flow.grants ≡ [] → l.ending ≡ None
+    → Carries w initial l (record { put = items; gained = []; back = []; initial = initial; free = free; ended = false; ring = ring }) (fresh_in ring initial)
+opened_carries ring initial w l items free wide stand grants goes_on = record {
+  items = sym stand;
+  grants = grants;
   late = refl;
   ended = sym (ap is_some goes_on);
   initial = refl;
-  fits = record { initial = refl; slots = omega (arith, few); room = omega arith };
+  fits = record { initial = refl; ring = refl; slots = wide };
+}
+
+-- an end that was put on, or gained, may meet as it might
+pub acts_fit : (items : List (Option PacketShown)) (grants : List ℕ) (is_ended : Bool) (o o' : OutSeen) (n : InSeen) → ActsOut items grants is_ended o o' → Fits o n → Fits o' n
+acts_fit items grants is_ended o o' n t f = record {
+  initial = f.initial ∙ sym t.initial;
+  ring = f.ring ∙ sym t.ring;
+  slots = ap (λ (r : PairName). r.slots) t.ring ∙ f.slots ∙ ap (λ i. i + 1) (sym t.initial);
 }
 
 -- ends carry a link still on whose out end these items were put
 pub acts_carries : (initial : ℕ) (w : World) (l l' : Link) (o o' : OutSeen) (n : InSeen) (items : List (Option PacketShown)) (is_ended : Bool) → ActsOut items [] is_ended o o' → items_in w l ++ items ≡ items_in w l' → l'.flow.grants ≡ l.flow.grants → is_ended ≡ is_some l'.ending → Carries w initial l o n → Carries w initial l' o' n
 acts_carries initial w l l' o o' n items is_ended t stand grants ends c = record {
-  items = ap (λ xs. n.items ++ xs) t.waiting ∙ sym (append_assoc n.items o.waiting items) ∙ ap (λ xs. xs ++ items) c.items ∙ stand;
-  grants = ap (λ xs. xs ++ n.given) t.back ∙ c.grants ∙ sym grants;
+  items = ap (λ xs. n.taken ++ xs) (sym stand) ∙ sym (append_assoc n.taken (items_in w l) items) ∙ ap (λ xs. xs ++ items) c.items ∙ sym t.put;
+  grants = ap (λ gs. o'.gained ++ gs) grants ∙ ap (λ gs. gs ++ l.flow.grants) (t.gained ∙ append-nil o.gained) ∙ c.grants;
   late = c.late;
   ended = t.ended ∙ ends;
   initial = t.initial ∙ c.initial;
-  fits = record {
-    initial = c.fits.initial ∙ sym t.initial;
-    slots = omega (arith, c.fits.slots, t.free, t.initial, ap length t.waiting, length-append o.waiting items);
-    room = omega (arith, c.fits.room, ap length t.back, t.initial);
-  };
+  fits = acts_fit items [] is_ended o o' n t c.fits;
 }
 
 -- and so where it has ended

@@ -1,4 +1,4 @@
--- What the calls of a member over plain ends show.
+-- What the calls of a member over ring ends show.
 use Rattle.std.proofs.Common.{◌≡◌, ℕ, ◌<◌, ◌≤◌, Bool, true, false, List, [], ◌∷◌, map, length, get_or, Option, Some, None, refl, sym, ap, subst, ◌∙◌, ⊎_elim, arith}
 use Rattle.std.specs.Prelude.{◌⊎◌, MatchOption, ⊤, option_map}
 use Rattle.std.proofs.lemmas.List.{map-append, get_or-map, length-map, append-nil}
@@ -10,9 +10,11 @@ use Rattle.ring_rules.specs.Refusal.{or_else, refuse_if, is_empty}
 use Rattle.ring_rules.specs.Event.{is_stopped}
 use Rattle.gm_member.proofs.Calls.{may_send, up_later}
 use Rattle.gm_member.proofs.DoorParts.{without_made}
-use Rattle.ordered_link.specs.declared.plain.PlainOut.{PlainOut}
-use Rattle.ordered_link.specs.declared.plain.PlainIn.{PlainIn}
-use Rattle.ordered_link.specs.Steps.{PlainPuts, PlainGains}
+use Rattle.ordered_link.specs.declared.ring.RingOut.{RingOut}
+use Rattle.ordered_link.specs.declared.ring.RingIn.{RingIn}
+use Rattle.ordered_link.specs.RingSteps.{RingPuts, RingGains}
+use Rattle.rtrb.specs.Ring.{sent, received as got, known_items, known_free}
+use Rattle.ring_parties.proofs.standing.Rings.{pair_out, out_items_same, out_back_same}
 use Rattle.ring_rules.specs.Machine.{runs_phase, is_waiting}
 use Rattle.activity.specs.declared.packet.Load.{Load}
 use Rattle.gm_member.specs.declared.links.OutLink.{OutLink}
@@ -46,28 +48,29 @@ pub shown_same : (a b : Shown) → b.held ≡ a.held → b.ends ≡ a.ends → b
 shown_same a b e1 e2 = ap (λ x. record b { held = x }) e1 ∙ ap (λ x. record a { ends = x }) e2
 
 -- the end of a link, and the grant that is kept of it
-abbrev pub end_there : Option (OutLink (PlainOut Load)) → Option (PlainOut Load)
+abbrev pub end_there : Option (OutLink (RingOut Load)) → Option (RingOut Load)
 end_there l = at_some l None (λ x. x.end)
 
-abbrev pub returned_there : Option (OutLink (PlainOut Load)) → Option ℕ
+abbrev pub returned_there : Option (OutLink (RingOut Load)) → Option ℕ
 returned_there l = at_some l None (λ x. x.returned)
 
 -- what the end of a link to a member shows
-abbrev pub in_there : Option (InLink (PlainIn Load)) → Option InSeen
+abbrev pub in_there : Option (InLink (RingIn Load)) → Option InSeen
 in_there l = option_map in_seen (at_some l None (λ x. x.end))
 
 -- ---- a put
 
-shown_put : (o p : PlainOut Load) (k : PacketSeen) → PlainPuts o (as_item k) p → ActsOut (Some (sent_of (packet_by_id k)) ∷ []) [] false (out_seen o) (out_seen p)
+shown_put : (o p : RingOut Load) (k : PacketSeen) → RingPuts o (as_item k) p → ActsOut (Some (sent_of (packet_by_id k)) ∷ []) [] false (out_seen o) (out_seen p)
 shown_put o p k e = record {
-  waiting = ap (map content) e.0 ∙ map-append content o.waiting.items (as_item k ∷ []);
-  free = e.1;
-  back = ap (λ v. v.items) e.2;
-  initial = e.3;
-  ended = e.4;
+  put = ap (map content) e.1 ∙ map-append content (sent o.items) (as_item k ∷ []);
+  gained = ap (λ v. got v) e.3 ∙ sym (append-nil (got o.back));
+  back = ap (λ v. known_items v) e.3;
+  initial = e.4;
+  ring = pair_out o p e.0 (out_back_same o p e.3);
+  ended = e.5;
 }
 
-pub puts_shown : (m n : ANode) → PutsOn PlainPuts m n → held_of n ≡ put_held (held_of m) → PutsPacket (shown_of m) (shown_of n)
+pub puts_shown : (m n : ANode) → PutsOn RingPuts m n → held_of n ≡ put_held (held_of m) → PutsPacket (shown_of m) (shown_of n)
 puts_shown m n (l, l', ml, nl', (k, said, (o, p, lo, lp, puts)), kept, (current, door, old_outs, old_ins)) held = (
   out_of l,
   out_seen o,
@@ -84,16 +87,16 @@ puts_shown m n (l, l', ml, nl', (k, said, (o, p, lo, lp, puts)), kept, (current,
 
 -- ---- a call that was refused
 
-same_looks : (a b : Option (PlainOut Load)) → EndLooks (λ x y. y ≡ x) a b → b ≡ a
+same_looks : (a b : Option (RingOut Load)) → EndLooks (λ x y. y ≡ x) a b → b ≡ a
 same_looks a b looks = ⊎_elim
     (λ (e : b ≡ a). e)
-    (λ (x : (o : PlainOut Load) × (p : PlainOut Load) × (a ≡ Some o) × (b ≡ Some p) × (p ≡ o)). x.3 ∙ ap Some x.4 ∙ sym x.2)
+    (λ (x : (o : RingOut Load) × (p : RingOut Load) × (a ≡ Some o) × (b ≡ Some p) × (p ≡ o)). x.3 ∙ ap Some x.4 ∙ sym x.2)
     looks
 
 pub same_out : (m n : ANode) → LooksOut (λ a b. b ≡ a) m n → (end_there n.out ≡ end_there m.out) × (returned_there n.out ≡ returned_there m.out)
 same_out m n looks = ⊎_elim
     (λ (e : n.out ≡ m.out). (ap end_there e, ap returned_there e))
-    (λ (x : (l : OutLink (PlainOut Load)) × (l' : OutLink (PlainOut Load)) × (m.out ≡ Some l) × (n.out ≡ Some l') × EndLooks (λ a b. b ≡ a) l.end l'.end × (l'.returned ≡ l.returned)).
+    (λ (x : (l : OutLink (RingOut Load)) × (l' : OutLink (RingOut Load)) × (m.out ≡ Some l) × (n.out ≡ Some l') × EndLooks (λ a b. b ≡ a) l.end l'.end × (l'.returned ≡ l.returned)).
     (ap end_there x.3 ∙ same_looks _ _ x.4 ∙ sym (ap end_there x.2), ap returned_there x.3 ∙ x.5 ∙ sym (ap returned_there x.2)))
     looks.1
 
@@ -119,11 +122,11 @@ full_out : (known : List Kept) (o : Option Outgoing) (e : Option OutSeen) → on
 full_out known None e enabled h full = cc
 full_out known (Some k) e enabled h full = full_slot known k e enabled h full
 
-seen_full : (e : Option (PlainOut Load)) → MatchOption e ⊥ (λ o. o.free ≤ 1) → MatchOption (option_map out_seen e) ⊥ (λ o. o.free ≤ 1)
+seen_full : (e : Option (RingOut Load)) → MatchOption e ⊥ (λ o. known_free o.items ≤ 1) → MatchOption (option_map out_seen e) ⊥ (λ o. o.free ≤ 1)
 seen_full None h = h
 seen_full (Some o) h = h
 
-never_full : (m : ANode) (e : Option (PlainOut Load)) → IsReady (shown_of m) → e ≡ end_there m.out → put_refused (held_of m) ≡ None → MatchOption e ⊥ (λ o. o.free ≤ 1) → ⊥
+never_full : (m : ANode) (e : Option (RingOut Load)) → IsReady (shown_of m) → e ≡ end_there m.out → put_refused (held_of m) ≡ None → MatchOption e ⊥ (λ o. known_free o.items ≤ 1) → ⊥
 never_full m e ready is enabled full =
     full_out (held_of m).known (held_of m).out (option_map out_seen (end_there m.out)) (up_later (held_of m) _ enabled) (ready.out (up_runs (held_of m) _ enabled)) (subst (λ x. MatchOption (option_map out_seen x) ⊥ (λ o. o.free ≤ 1)) is (seen_full e full))
 
@@ -131,22 +134,22 @@ never_full m e ready is enabled full =
 abbrev pub PutFault : ANode → ANode → MemberFault → Type 0
 PutFault m n fault =
     ((r : Reason) × (fault ≡ faults.Refused r) × (put_refused (held_of m) ≡ Some r))
-    ⊎ ((put_refused (held_of m) ≡ None) × IsPutFault (λ e. e.free) fault (ends_of n).out)
+    ⊎ ((put_refused (held_of m) ≡ None) × IsPutFault (λ e. known_free e.items) fault (ends_of n).out)
 
 pub put_fault : (m n : ANode) (fault : MemberFault) (r : Reason) → fault ≡ faults.Refused r → IsReady (shown_of m) → LooksOut (λ a b. b ≡ a) m n → PutFault m n fault → put_refused (held_of m) ≡ Some r
 put_fault m n fault r is ready looks why = ⊎_elim
     (λ (x : (q : Reason) × (fault ≡ faults.Refused q) × (put_refused (held_of m) ≡ Some q)). cc (x.1, x.2))
-    (λ (x : (put_refused (held_of m) ≡ None) × IsPutFault (λ e. e.free) fault (ends_of n).out). absurd (⊎_elim
+    (λ (x : (put_refused (held_of m) ≡ None) × IsPutFault (λ e. known_free e.items) fault (ends_of n).out). absurd (⊎_elim
     (λ (y : fault ≡ faults.OutOfMemory). cc y)
-    (λ (y : (fault ≡ faults.Refused LinkFull) × MatchOption (ends_of n).out ⊥ (λ o. o.free ≤ 1)). never_full m (ends_of n).out ready (same_out m n looks).0 x.0 y.1)
+    (λ (y : (fault ≡ faults.Refused LinkFull) × MatchOption (ends_of n).out ⊥ (λ o. known_free o.items ≤ 1)). never_full m (ends_of n).out ready (same_out m n looks).0 x.0 y.1)
     x.1))
     why
 
 -- ---- a grant
 
 -- the grants that an end knows to have come back
-abbrev grants : PlainOut Load → List ℕ
-grants e = e.back.items
+abbrev grants : RingOut Load → List ℕ
+grants e = known_items e.back
 
 grant_by : (b1 b2 b3 : Bool) (o : Option Outgoing) (later : Option Reason) (r : Reason) → or_else (refuse_if b1 Stopped) (or_else (refuse_if b2 Waiting) (or_else (refuse_if b3 AwaitingAnswer) (on_some o NoOutLink (λ _. None)))) ≡ Some r → or_else (refuse_if b1 Stopped) (or_else (refuse_if b2 Waiting) (or_else (refuse_if b3 AwaitingAnswer) (on_some o NoOutLink (λ _. later)))) ≡ Some r
 grant_by true b2 b3 o later r e = e
@@ -169,11 +172,11 @@ later_grant : (m : ANode) → gain_refused (held_of m) ≡ None → grant_refuse
 later_grant m e = grant_later_by (is_stopped m.phase) (is_waiting m.phase) m.asked (held_of m).out _ e
 
 -- none has come back
-none_back_end : (e : Option (PlainOut Load)) → MatchOption e ⊤ (λ o. grants o ≡ []) → refuse_if (is_empty (back_of (option_map out_seen e))) NoGrant ≡ Some NoGrant
+none_back_end : (e : Option (RingOut Load)) → MatchOption e ⊤ (λ o. grants o ≡ []) → refuse_if (is_empty (back_of (option_map out_seen e))) NoGrant ≡ Some NoGrant
 none_back_end None h = refl
 none_back_end (Some o) h = ap (λ gs. refuse_if (is_empty gs) NoGrant) h
 
-none_back : (l : Option (OutLink (PlainOut Load))) → MatchOption l ⊤ (λ x. (x.returned ≡ None) × MatchOption x.end ⊤ (λ o. grants o ≡ [])) → refuse_if (is_empty (back_of (option_map out_seen (end_there l)))) NoGrant ≡ Some NoGrant
+none_back : (l : Option (OutLink (RingOut Load))) → MatchOption l ⊤ (λ x. (x.returned ≡ None) × MatchOption x.end ⊤ (λ o. grants o ≡ [])) → refuse_if (is_empty (back_of (option_map out_seen (end_there l)))) NoGrant ≡ Some NoGrant
 none_back None h = refl
 none_back (Some l) h = none_back_end l.end h.1
 
@@ -189,23 +192,24 @@ gain_refusal m n r looks why = ⊎_elim
     why
 
 -- the grant is gone from the end
-shown_gain : (o p : PlainOut Load) (amount : ℕ) → PlainGains o amount p → ActsOut [] (amount ∷ []) o.ended (out_seen o) (out_seen p)
+shown_gain : (o p : RingOut Load) (amount : ℕ) → RingGains o amount p → ActsOut [] (amount ∷ []) o.ended (out_seen o) (out_seen p)
 shown_gain o p amount e = record {
-  waiting = ap (λ v. map content v.items) e.1 ∙ sym (append-nil (map content o.waiting.items));
-  free = omega (arith, e.2);
-  back = sym e.0;
+  put = ap (λ v. map content (sent v)) e.0 ∙ sym (append-nil (map content (sent o.items)));
+  gained = e.2;
+  back = sym e.3;
   initial = e.4;
-  ended = e.3;
+  ring = pair_out o p (out_items_same o p e.0) e.1;
+  ended = e.5;
 }
 
 -- m looked and is n, which keeps the grant as p, which gained it as q
-pub gain_shown : (m n p q : ANode) (amount : ℕ) → IsReady (shown_of m) → LooksOut (λ a b. b ≡ a) m n → KeepsGrant PlainGains amount n p → held_of n ≡ held_of m → held_of p ≡ held_of n → held_of q ≡ gained_held (held_of p) amount → ends_of q ≡ record (ends_of p) { returned = None } → Gains (shown_of m) (shown_of q)
+pub gain_shown : (m n p q : ANode) (amount : ℕ) → IsReady (shown_of m) → LooksOut (λ a b. b ≡ a) m n → KeepsGrant RingGains amount n p → held_of n ≡ held_of m → held_of p ≡ held_of n → held_of q ≡ gained_held (held_of p) amount → ends_of q ≡ record (ends_of p) { returned = None } → Gains (shown_of m) (shown_of q)
 gain_shown m n p q amount ready looks ((current, door, old_outs, old_ins), l, l', nl, pl, kept, how) hn hp hq ends =
     let e : (end_there n.out ≡ end_there m.out) × (returned_there n.out ≡ returned_there m.out) = same_out m n looks in
     let none : l.returned ≡ None = sym (ap returned_there nl) ∙ e.1 ∙ ready.returned in
     ⊎_elim
     (λ (x : (l.returned ≡ Some amount) × (l'.end ≡ l.end)). absurd (cc (x.0, none)))
-    (λ (x : (l.returned ≡ None) × (o : PlainOut Load) × (r : PlainOut Load) × (l.end ≡ Some o) × (l'.end ≡ Some r) × PlainGains o amount r). (
+    (λ (x : (l.returned ≡ None) × (o : RingOut Load) × (r : RingOut Load) × (l.end ≡ Some o) × (l'.end ≡ Some r) × RingGains o amount r). (
       amount,
       out_seen x.1,
       out_seen x.2,
@@ -221,12 +225,12 @@ gain_shown m n p q amount ready looks ((current, door, old_outs, old_ins), l, l'
 -- ---- a pick
 
 -- what stands at a place of a list and of what is made of it
-picked_end : (xs : List (InLink (PlainIn Load))) (i : ℕ) (l : InLink (PlainIn Load)) → i < length xs → l ≡ get_or xs i l → option_map in_seen l.end ≡ get_or (map (option_map in_seen) (map end_of xs)) i None
+picked_end : (xs : List (InLink (RingIn Load))) (i : ℕ) (l : InLink (RingIn Load)) → i < length xs → l ≡ get_or xs i l → option_map in_seen l.end ≡ get_or (map (option_map in_seen) (map end_of xs)) i None
 picked_end xs i l within is =
     let shorter : i < length (map end_of xs) = rw length-map within in
     sym (get_or-map (option_map in_seen) (map end_of xs) i None None shorter ∙ ap (option_map in_seen) (get_or-map end_of xs i l None within ∙ ap end_of (sym is)))
 
-picked_current : (xs : List (InLink (PlainIn Load))) (i : ℕ) (c : Option (InLink (PlainIn Load))) → i < length xs → MatchOption c ⊥ (λ l. l ≡ get_or xs i l) → in_there c ≡ get_or (map (option_map in_seen) (map end_of xs)) i None
+picked_current : (xs : List (InLink (RingIn Load))) (i : ℕ) (c : Option (InLink (RingIn Load))) → i < length xs → MatchOption c ⊥ (λ l. l ≡ get_or xs i l) → in_there c ≡ get_or (map (option_map in_seen) (map end_of xs)) i None
 picked_current xs i None within is = absurd is
 picked_current xs i (Some l) within is = picked_end xs i l within is
 

@@ -1,4 +1,4 @@
--- What the calls show by which a member over plain ends takes from a link.
+-- What the calls show by which a member over ring ends takes from a link.
 use Rattle.std.proofs.Common.{◌≡◌, ℕ, ◌+◌, ◌<◌, ◌≤◌, Bool, true, false, List, [], ◌∷◌, map, length, Option, Some, None, refl, sym, ap, subst, ◌∙◌, ⊎_elim, arith}
 use Rattle.std.specs.Prelude.{◌⊎◌, Result, Ok, Err, MatchOption, ⊤, option_map, nat_lt}
 use Rattle.std.specs.Result.{IsErrAnd}
@@ -11,8 +11,13 @@ use Rattle.credit_flow.specs.Link.{with_grant}
 use Rattle.ordered_link.specs.declared.item.EndReason.{EndReason}
 use Rattle.ordered_link.specs.declared.item.Item.{Item}
 use Rattle.ordered_link.specs.declared.item.Item.TheVariants as item
-use Rattle.ordered_link.specs.declared.plain.PlainIn.{PlainIn}
-use Rattle.ordered_link.specs.Steps.{PlainTakes, PlainSends, PlainLooked}
+use Rattle.ordered_link.specs.declared.ring.RingIn.{RingIn}
+use Rattle.ordered_link.specs.RingSteps.{RingTakes, RingSends, RingWaited}
+use Rattle.rtrb.specs.Ring.{sent, received as got, known_items, known_free, SameProducer}
+use Rattle.std.specs.Prelude.{◌++◌}
+use Rattle.std.proofs.lemmas.List.{map-append}
+use Rattle.ordered_link.specs.Names.{in_pair}
+use Rattle.ring_parties.proofs.standing.Rings.{pair_in, in_items_same}
 use Rattle.ring_rules.specs.Refusal.{or_else, refuse_if}
 use Rattle.ring_rules.specs.Event.{is_stopped, version_refusal}
 use Rattle.gm_member.specs.declared.fault.MemberFault.{MemberFault}
@@ -43,36 +48,40 @@ use Rattle.ring_parties.proofs.standing.Shown.{end_there, returned_there, in_the
 
 -- ---- a packet that was taken
 
-shown_take : (due : Option ℕ) (k : PacketSeen) (i j a b : PlainIn Load) → i.late ≡ None → ((q : PacketShown) (rest : List (Option PacketShown)) → (in_seen i).items ≡ Some q ∷ rest → 0 < i.free) → PlainLooked i j → PlainTakes j (as_item k) a → GrantsIf due PlainSends a b → TakesIn due (in_seen i) (sent_of (packet_by_id k)) (in_seen b)
+shown_take : (due : Option ℕ) (k : PacketSeen) (i j a b : RingIn Load) → i.late ≡ None → ((q : PacketShown) (rest : List (Option PacketShown)) → (in_seen i).items ≡ Some q ∷ rest → 0 < known_free i.back) → RingWaited i j → RingTakes j (as_item k) a → GrantsIf due RingSends a b → TakesIn due (in_seen i) (sent_of (packet_by_id k)) (in_seen b)
 shown_take due k i j a b late room looked takes grants =
-    let first : (j.given.items ≡ i.given.items) × (j.late ≡ None) = nothing_sent i.given.items j.given.items i.late j.late late looked.1.0 in
-    let second : (a.given.items ≡ j.given.items) × (a.late ≡ None) = nothing_sent j.given.items a.given.items j.late a.late first.1 takes.1.0 in
-    let all : i.items.items ≡ as_item k ∷ a.items.items = sym (ap (λ v. v.items) looked.0) ∙ takes.0 in
-    let given : a.given.items ≡ i.given.items = second.0 ∙ first.0 in
-    let slots : length a.given.items + a.free ≡ length i.given.items + i.free = takes.1.1 ∙ looked.1.1 in
-    let free : 0 < a.free =
-    let l : 0 < i.free = room (sent_of (packet_by_id k)) (map content a.items.items) (ap (map content) all) in
-    let n : length a.given.items ≡ length i.given.items = ap length given in
+    let first : (sent j.back ≡ sent i.back) × (j.late ≡ None) = nothing_sent (sent i.back) (sent j.back) i.late j.late late looked.1.1 in
+    let second : (sent a.back ≡ sent j.back) × (a.late ≡ None) = nothing_sent (sent j.back) (sent a.back) j.late a.late first.1 takes.3.1 in
+    let all : known_items i.items ≡ as_item k ∷ known_items a.items = sym (ap (λ v. known_items v) looked.0) ∙ takes.2 in
+    let given : sent a.back ≡ sent i.back = second.0 ∙ first.0 in
+    let slots : length (sent a.back) + known_free a.back ≡ length (sent i.back) + known_free i.back = takes.3.2 ∙ looked.1.2 in
+    let free : 0 < known_free a.back =
+    let l : 0 < known_free i.back = room (sent_of (packet_by_id k)) (map content (known_items a.items)) (ap (map content) all) in
+    let n : length (sent a.back) ≡ length (sent i.back) = ap length given in
     omega arith in
-    let last : (b.items ≡ a.items) × (b.given.items ≡ with_grant a.given.items due) × (b.late ≡ None) × (length b.given.items + b.free ≡ length a.given.items + a.free) × (b.initial ≡ a.initial) = granted due a b free second.1 grants in
+    let last : (b.items ≡ a.items) × (sent b.back ≡ with_grant (sent a.back) due) × (b.late ≡ None) × (length (sent b.back) + known_free b.back ≡ length (sent a.back) + known_free a.back) × (b.initial ≡ a.initial) × SameProducer a.back b.back = granted due a b free second.1 grants in
     record {
-      items = ap (map content) all ∙ ap (λ v. Some (sent_of (packet_by_id k)) ∷ map content v.items) (sym last.0);
+      taken =
+          ap (λ v. map content (got v)) last.0 ∙ ap (map content) takes.1 ∙ map-append content (got j.items) (as_item k ∷ [])
+          ∙ ap (λ v. map content (got v) ++ Some (sent_of (packet_by_id k)) ∷ []) looked.0;
+      items = ap (map content) all ∙ ap (λ v. Some (sent_of (packet_by_id k)) ∷ map content (known_items v)) (sym last.0);
       given = last.1 ∙ ap (λ xs. with_grant xs due) given;
       late = last.2;
       room = last.3 ∙ slots;
-      initial = last.4 ∙ takes.1.2 ∙ looked.1.2;
+      initial = last.4 ∙ takes.3.3 ∙ looked.1.3;
+      ring = pair_in a b (in_items_same a b last.0) last.5 ∙ pair_in j a takes.0 takes.3.0 ∙ pair_in i j (in_items_same i j looked.0) looked.1.0;
     }
 
 -- what a member has that takes from this end
 abbrev IsReadyIn : InSeen → Type 0
 IsReadyIn n = (n.late ≡ None) × ((k : PacketShown) (rest : List (Option PacketShown)) → n.items ≡ Some k ∷ rest → 0 < n.free)
 
-pub ready_in : (m : ANode) (l : InLink (PlainIn Load)) (i : PlainIn Load) → m.current ≡ Some l → l.end ≡ Some i → IsReady (shown_of m) → IsReadyIn (in_seen i)
+pub ready_in : (m : ANode) (l : InLink (RingIn Load)) (i : RingIn Load) → m.current ≡ Some l → l.end ≡ Some i → IsReady (shown_of m) → IsReadyIn (in_seen i)
 ready_in m l i ml li ready =
-    let f : (c : Option (InLink (PlainIn Load))) → c ≡ Some l → MatchOption (option_map in_of c) ⊤ (λ _. MatchOption (in_there c) ⊥ IsReadyIn) → MatchOption (in_there (Some l)) ⊥ IsReadyIn = λ (c : Option (InLink (PlainIn Load))) (e : c ≡ Some l) h. subst (λ x. MatchOption (option_map in_of x) ⊤ (λ _. MatchOption (in_there x) ⊥ IsReadyIn)) e h in
+    let f : (c : Option (InLink (RingIn Load))) → c ≡ Some l → MatchOption (option_map in_of c) ⊤ (λ _. MatchOption (in_there c) ⊥ IsReadyIn) → MatchOption (in_there (Some l)) ⊥ IsReadyIn = λ (c : Option (InLink (RingIn Load))) (e : c ≡ Some l) h. subst (λ x. MatchOption (option_map in_of x) ⊤ (λ _. MatchOption (in_there x) ⊥ IsReadyIn)) e h in
     subst (λ x. MatchOption (option_map in_seen x) ⊥ IsReadyIn) li (f m.current ml ready.link)
 
-in_is : (m : ANode) (l : InLink (PlainIn Load)) (i : PlainIn Load) → m.current ≡ Some l → l.end ≡ Some i → in_there m.current ≡ Some (in_seen i)
+in_is : (m : ANode) (l : InLink (RingIn Load)) (i : RingIn Load) → m.current ≡ Some l → l.end ≡ Some i → in_there m.current ≡ Some (in_seen i)
 in_is m l i ml li = ap in_there ml ∙ ap (option_map in_seen) li
 
 -- the member with another end of the link from which it takes
@@ -81,7 +90,7 @@ with_link m n i is (out, door, old_outs, old_ins) =
     ends_same (record (ends_seen (ends_of m)) { link = i }) (ends_seen (ends_of n)) (ap (λ x. option_map out_seen (end_there x)) out) (ap returned_there out) is
     (ap (λ v. map (option_map in_seen) (map end_of v.items)) door) (ap (λ v. map named_out v.items) old_outs) (ap (λ v. map named_in v.items) old_ins)
 
-pub takes_shown : (m n : ANode) (k : PacketSeen) → IsReady (shown_of m) → TookOn (λ e. e.late) PlainTakes PlainLooked PlainSends k m n → held_of n ≡ took_held (held_of m) (packet_by_id k) → TakesPacket (shown_of m) (shown_of n)
+pub takes_shown : (m n : ANode) (k : PacketSeen) → IsReady (shown_of m) → TookOn (λ e. e.late) RingTakes RingWaited RingSends k m n → held_of n ≡ took_held (held_of m) (packet_by_id k) → TakesPacket (shown_of m) (shown_of n)
 takes_shown m n k ready (l, l', ml, nl, (i, j, a, b, li, looked, takes, waits, grants, lb), same) held =
     let h : IsReadyIn (in_seen i) = ready_in m l i ml li ready in
     let due : due_of (held_of m) ≡ grant_due l.counted = ap (λ c. at_some (option_map in_of c) None (λ x. grant_due x.counted)) ml in (
@@ -94,7 +103,7 @@ takes_shown m n k ready (l, l', ml, nl, (i, j, a, b, li, looked, takes, waits, g
     )
 
 -- the packet stood first on the link
-pub take_first : (m n : ANode) (k : PacketSeen) → IsReady (shown_of m) → TookOn (λ e. e.late) PlainTakes PlainLooked PlainSends k m n → (rest : List (Option PacketShown)) × (first_item (shown_of m).ends.link ≡ Some (sent_of (packet_by_id k)) ∷ rest)
+pub take_first : (m n : ANode) (k : PacketSeen) → IsReady (shown_of m) → TookOn (λ e. e.late) RingTakes RingWaited RingSends k m n → (rest : List (Option PacketShown)) × (first_item (shown_of m).ends.link ≡ Some (sent_of (packet_by_id k)) ∷ rest)
 take_first m n k ready (l, l', ml, nl, (i, j, a, b, li, looked, takes, waits, grants, lb), same) =
     let h : IsReadyIn (in_seen i) = ready_in m l i ml li ready in
     ((in_seen b).items, ap first_item (in_is m l i ml li) ∙ (shown_take (grant_due l.counted) k i j a b h.0 h.1 looked takes grants).items)
@@ -118,21 +127,23 @@ take_few m k rest taken first is j others there =
 -- ---- an end that was looked at
 
 -- a look shows the same
-same_seen : (i j : PlainIn Load) → i.late ≡ None → PlainLooked i j → in_seen j ≡ in_seen i
+same_seen : (i j : RingIn Load) → i.late ≡ None → RingWaited i j → in_seen j ≡ in_seen i
 same_seen i j late looked =
-    let sent : (j.given.items ≡ i.given.items) × (j.late ≡ None) = nothing_sent i.given.items j.given.items i.late j.late late looked.1.0 in
-    let free : j.free ≡ i.free = omega (arith, looked.1.1, ap length sent.0) in
-    let e : j.late ≡ i.late = sent.1 ∙ sym late in
-    ap (λ v. record { items = map content v.items; given = j.given.items; late = j.late; initial = j.initial; free = j.free }) looked.0
-    ∙ ap (λ v. record { items = map content i.items.items; given = v; late = j.late; initial = j.initial; free = j.free }) sent.0
-    ∙ ap (λ v. record { items = map content i.items.items; given = i.given.items; late = v; initial = j.initial; free = j.free }) e
-    ∙ ap (λ v. record { items = map content i.items.items; given = i.given.items; late = i.late; initial = v; free = j.free }) looked.1.2
-    ∙ ap (λ v. record { items = map content i.items.items; given = i.given.items; late = i.late; initial = i.initial; free = v }) free
+    let nothing : (sent j.back ≡ sent i.back) × (j.late ≡ None) = nothing_sent (sent i.back) (sent j.back) i.late j.late late looked.1.1 in
+    let taken : map content (got j.items) ≡ map content (got i.items) = ap (λ v. map content (got v)) looked.0 in
+    let items : map content (known_items j.items) ≡ map content (known_items i.items) = ap (λ v. map content (known_items v)) looked.0 in
+    let given : sent j.back ≡ sent i.back = nothing.0 in
+    let waits : j.late ≡ i.late = nothing.1 ∙ sym late in
+    let size : j.initial ≡ i.initial = looked.1.3 in
+    let many : length (sent j.back) ≡ length (sent i.back) = ap length given in
+    let free : known_free j.back ≡ known_free i.back = omega (arith, looked.1.2, many) in
+    let ring : in_pair j ≡ in_pair i = pair_in i j (in_items_same i j looked.0) looked.1.0 in
+    cc
 
-same_end : (a b : Option (PlainIn Load)) → MatchOption (option_map in_seen a) ⊤ (λ n. n.late ≡ None) → EndLooks PlainLooked a b → option_map in_seen b ≡ option_map in_seen a
+same_end : (a b : Option (RingIn Load)) → MatchOption (option_map in_seen a) ⊤ (λ n. n.late ≡ None) → EndLooks RingWaited a b → option_map in_seen b ≡ option_map in_seen a
 same_end a b late looks = ⊎_elim
     (λ (e : b ≡ a). ap (option_map in_seen) e)
-    (λ (x : (i : PlainIn Load) × (j : PlainIn Load) × (a ≡ Some i) × (b ≡ Some j) × PlainLooked i j).
+    (λ (x : (i : RingIn Load) × (j : RingIn Load) × (a ≡ Some i) × (b ≡ Some j) × RingWaited i j).
     let h : x.0.late ≡ None = subst (λ p. MatchOption (option_map in_seen p) ⊤ (λ n. n.late ≡ None)) x.2 late in
     ap (option_map in_seen) x.3 ∙ ap Some (same_seen x.0 x.1 h x.4) ∙ sym (ap (option_map in_seen) x.2))
     looks
@@ -142,17 +153,17 @@ none_waits_end : (e : Option InSeen) → MatchOption e ⊥ IsReadyIn → MatchOp
 none_waits_end None h = tt
 none_waits_end (Some n) h = h.0
 
-none_waits_in : (c : Option (InLink (PlainIn Load))) → MatchOption (option_map in_of c) ⊤ (λ _. MatchOption (in_there c) ⊥ IsReadyIn) → MatchOption (in_there c) ⊤ (λ n. n.late ≡ None)
+none_waits_in : (c : Option (InLink (RingIn Load))) → MatchOption (option_map in_of c) ⊤ (λ _. MatchOption (in_there c) ⊥ IsReadyIn) → MatchOption (in_there c) ⊤ (λ n. n.late ≡ None)
 none_waits_in None h = tt
 none_waits_in (Some l) h = none_waits_end (option_map in_seen l.end) h
 
 none_waits : (m : ANode) → IsReady (shown_of m) → MatchOption (in_there m.current) ⊤ (λ n. n.late ≡ None)
 none_waits m ready = none_waits_in m.current ready.link
 
-same_in : (m n : ANode) → IsReady (shown_of m) → LooksIn PlainLooked m n → in_there n.current ≡ in_there m.current
+same_in : (m n : ANode) → IsReady (shown_of m) → LooksIn RingWaited m n → in_there n.current ≡ in_there m.current
 same_in m n ready looks = ⊎_elim
     (λ (e : n.current ≡ m.current). ap in_there e)
-    (λ (x : (l : InLink (PlainIn Load)) × (l' : InLink (PlainIn Load)) × (m.current ≡ Some l) × (n.current ≡ Some l') × EndLooks PlainLooked l.end l'.end).
+    (λ (x : (l : InLink (RingIn Load)) × (l' : InLink (RingIn Load)) × (m.current ≡ Some l) × (n.current ≡ Some l') × EndLooks RingWaited l.end l'.end).
     let h : MatchOption (in_there (Some x.0)) ⊤ (λ n. n.late ≡ None) = subst (λ c. MatchOption (in_there c) ⊤ (λ n. n.late ≡ None)) x.2 (none_waits m ready) in
     ap in_there x.3 ∙ same_end x.0.end x.1.end h x.4 ∙ sym (ap in_there x.2))
     looks.1
@@ -193,17 +204,17 @@ packet_before_end : (x : Load) (xs : List (Item Load)) → IsPrefix (item.Load x
 packet_before_end x xs h = ap (λ ys. end_refused (map content ys)) (sym h.1)
 
 -- the items that an end knows, and the grant that waits in it
-abbrev known : PlainIn Load → List (Item Load)
-known e = e.items.items
+abbrev known : RingIn Load → List (Item Load)
+known e = known_items e.items
 
-abbrev waiting : PlainIn Load → Option ℕ
+abbrev waiting : RingIn Load → Option ℕ
 waiting e = e.late
 
 -- why a member with a view of this version may take no packet from an end
-abbrev NewerNext : ℕ → Reason → Option (PlainIn Load) → Type 0
+abbrev NewerNext : ℕ → Reason → Option (RingIn Load) → Type 0
 NewerNext v r e = PacketIsNext known (λ k. (v < k.view) × (r ≡ ViewTooOld k.view v)) e
 
-refusal_at : (v : ℕ) (r : Reason) (e : Option (PlainIn Load)) → MatchOption (option_map in_seen e) ⊤ (λ n. n.late ≡ None) → IsTakeRefusal known waiting v r e → items_refused v (first_item (option_map in_seen e)) ≡ Some r
+refusal_at : (v : ℕ) (r : Reason) (e : Option (RingIn Load)) → MatchOption (option_map in_seen e) ⊤ (λ n. n.late ≡ None) → IsTakeRefusal known waiting v r e → items_refused v (first_item (option_map in_seen e)) ≡ Some r
 refusal_at v r None late why = absurd (⊎_elim
     (λ (x : (r ≡ NothingToTake) × NothingIsNext known waiting None). x.1)
     (λ (y : ((r ≡ EndNext) × EndIsNext known None) ⊎ NewerNext v r None). ⊎_elim (λ (x : (r ≡ EndNext) × EndIsNext known None). x.1) (λ (x : NewerNext v r None). x) y)
@@ -211,8 +222,8 @@ refusal_at v r None late why = absurd (⊎_elim
 refusal_at v r (Some i) late why = ⊎_elim
     (λ (x : (r ≡ NothingToTake) × NothingIsNext known waiting (Some i)). ap (λ ys. items_refused v (map content ys)) (x.1 late) ∙ ap Some (sym x.0))
     (λ (y : ((r ≡ EndNext) × EndIsNext known (Some i)) ⊎ NewerNext v r (Some i)). ⊎_elim
-    (λ (x : (r ≡ EndNext) × EndIsNext known (Some i)). end_first x.1.0 i.items.items v x.1.1 ∙ ap Some (sym x.0))
-    (λ (x : NewerNext v r (Some i)). packet_first x.0 i.items.items v x.1 ∙ version_some _ _ x.2.0 ∙ ap Some (sym x.2.1))
+    (λ (x : (r ≡ EndNext) × EndIsNext known (Some i)). end_first x.1.0 (known_items i.items) v x.1.1 ∙ ap Some (sym x.0))
+    (λ (x : NewerNext v r (Some i)). packet_first x.0 (known_items i.items) v x.1 ∙ version_some _ _ x.2.0 ∙ ap Some (sym x.2.1))
     y)
     why
 
@@ -223,32 +234,32 @@ TakeFault m n fault =
     ⊎ ((take_refused (held_of m) None ≡ None) × MatchOption n.current ⊥ (λ l. IsTakeFault known waiting (held_of m).view.version fault l.end))
 
 -- what holds of the end from which a member takes
-end_of_in : (c : Option (InLink (PlainIn Load))) (P : Option (PlainIn Load) → Type 0) (Q : Option InSeen → Type 0) → ((e : Option (PlainIn Load)) → MatchOption (option_map in_seen e) ⊤ (λ n. n.late ≡ None) → P e → Q (option_map in_seen e)) → MatchOption (in_there c) ⊤ (λ n. n.late ≡ None) → MatchOption c ⊥ (λ l. P l.end) → Q (in_there c)
+end_of_in : (c : Option (InLink (RingIn Load))) (P : Option (RingIn Load) → Type 0) (Q : Option InSeen → Type 0) → ((e : Option (RingIn Load)) → MatchOption (option_map in_seen e) ⊤ (λ n. n.late ≡ None) → P e → Q (option_map in_seen e)) → MatchOption (in_there c) ⊤ (λ n. n.late ≡ None) → MatchOption c ⊥ (λ l. P l.end) → Q (in_there c)
 end_of_in None P Q f late h = absurd h
 end_of_in (Some l) P Q f late h = f l.end late h
 
 -- and what it showed before a look
-shown_before : (m n : ANode) (P : Option (PlainIn Load) → Type 0) (Q : Option InSeen → Type 0) → IsReady (shown_of m) → LooksIn PlainLooked m n → ((e : Option (PlainIn Load)) → MatchOption (option_map in_seen e) ⊤ (λ n. n.late ≡ None) → P e → Q (option_map in_seen e)) → MatchOption n.current ⊥ (λ l. P l.end) → Q (in_there m.current)
+shown_before : (m n : ANode) (P : Option (RingIn Load) → Type 0) (Q : Option InSeen → Type 0) → IsReady (shown_of m) → LooksIn RingWaited m n → ((e : Option (RingIn Load)) → MatchOption (option_map in_seen e) ⊤ (λ n. n.late ≡ None) → P e → Q (option_map in_seen e)) → MatchOption n.current ⊥ (λ l. P l.end) → Q (in_there m.current)
 shown_before m n P Q ready looks f h =
     let e : in_there n.current ≡ in_there m.current = same_in m n ready looks in
     subst Q e (end_of_in n.current P Q f (subst (λ s. MatchOption s ⊤ (λ n. n.late ≡ None)) (sym e) (none_waits m ready)) h)
 
-fault_at : (v : ℕ) (r : Reason) (fault : MemberFault) → fault ≡ faults.Refused r → (e : Option (PlainIn Load)) → MatchOption (option_map in_seen e) ⊤ (λ n. n.late ≡ None) → IsTakeFault known waiting v fault e → items_refused v (first_item (option_map in_seen e)) ≡ Some r
+fault_at : (v : ℕ) (r : Reason) (fault : MemberFault) → fault ≡ faults.Refused r → (e : Option (RingIn Load)) → MatchOption (option_map in_seen e) ⊤ (λ n. n.late ≡ None) → IsTakeFault known waiting v fault e → items_refused v (first_item (option_map in_seen e)) ≡ Some r
 fault_at v r fault is e late why = ⊎_elim
     (λ (x : (q : Reason) × (fault ≡ faults.Refused q) × IsTakeRefusal known waiting v q e). let same : x.0 ≡ r = cc (x.1) in refusal_at v x.0 e late x.2 ∙ ap Some same)
     (λ (x : (fault ≡ faults.OutOfMemory) × PacketIsNext known (λ k. k.view ≤ v) e). absurd (cc (x.0)))
     why
 
-pub take_refusal : (m n : ANode) (fault : MemberFault) (r : Reason) → fault ≡ faults.Refused r → IsReady (shown_of m) → LooksIn PlainLooked m n → TakeFault m n fault → packet_refused (shown_of m) ≡ Some r
+pub take_refusal : (m n : ANode) (fault : MemberFault) (r : Reason) → fault ≡ faults.Refused r → IsReady (shown_of m) → LooksIn RingWaited m n → TakeFault m n fault → packet_refused (shown_of m) ≡ Some r
 take_refusal m n fault r is ready looks why = ⊎_elim
     (λ (x : (q : Reason) × (fault ≡ faults.Refused q) × (take_refused (held_of m) None ≡ Some q)). let same : x.0 ≡ r = cc (x.1) in first_take (held_of m) _ x.0 x.2 ∙ ap Some same)
     (λ (x : (take_refused (held_of m) None ≡ None) × MatchOption n.current ⊥ (λ l. IsTakeFault known waiting (held_of m).view.version fault l.end)).
     later_take (held_of m) _ x.0 ∙ shown_before m n (λ e. IsTakeFault known waiting (held_of m).view.version fault e) (λ s. items_refused (held_of m).view.version (first_item s) ≡ Some r) ready looks (fault_at (held_of m).view.version r fault is) x.1)
     why
 
-pub take_enabled : (m n : ANode) (k : PacketSeen) → TookOn (λ e. e.late) PlainTakes PlainLooked PlainSends k m n → k.view ≤ (held_of m).view.version → take_refused (held_of m) None ≡ None → packet_refused (shown_of m) ≡ None
+pub take_enabled : (m n : ANode) (k : PacketSeen) → TookOn (λ e. e.late) RingTakes RingWaited RingSends k m n → k.view ≤ (held_of m).view.version → take_refused (held_of m) None ≡ None → packet_refused (shown_of m) ≡ None
 take_enabled m n k (l, l', ml, nl, (i, j, a, b, li, looked, takes, waits, grants, lb), same) older enabled =
-    let all : i.items.items ≡ as_item k ∷ a.items.items = sym (ap (λ v. v.items) looked.0) ∙ takes.0 in
+    let all : known_items i.items ≡ as_item k ∷ known_items a.items = sym (ap (λ v. known_items v) looked.0) ∙ takes.2 in
     later_take (held_of m) _ enabled
     ∙ ap (λ s. items_refused (held_of m).view.version (first_item s)) (in_is m l i ml li)
     ∙ ap (λ xs. items_refused (held_of m).view.version (map content xs)) all
@@ -256,14 +267,14 @@ take_enabled m n k (l, l', ml, nl, (i, j, a, b, li, looked, takes, waits, grants
 
 -- ---- the end of a link
 
-end_refusal_at : (r : Reason) (e : Option (PlainIn Load)) → MatchOption (option_map in_seen e) ⊤ (λ n. n.late ≡ None) → IsEndRefusal known waiting r e → end_refused (first_item (option_map in_seen e)) ≡ Some r
+end_refusal_at : (r : Reason) (e : Option (RingIn Load)) → MatchOption (option_map in_seen e) ⊤ (λ n. n.late ≡ None) → IsEndRefusal known waiting r e → end_refused (first_item (option_map in_seen e)) ≡ Some r
 end_refusal_at r None late why = absurd (⊎_elim
     (λ (x : (r ≡ NothingToTake) × NothingIsNext known waiting None). x.1)
     (λ (x : (r ≡ PacketNext) × PacketIsNext known (λ _. ⊤) None). x.1)
     why)
 end_refusal_at r (Some i) late why = ⊎_elim
     (λ (x : (r ≡ NothingToTake) × NothingIsNext known waiting (Some i)). ap (λ ys. end_refused (map content ys)) (x.1 late) ∙ ap Some (sym x.0))
-    (λ (x : (r ≡ PacketNext) × PacketIsNext known (λ _. ⊤) (Some i)). packet_before_end x.1.0 i.items.items x.1.1 ∙ ap Some (sym x.0))
+    (λ (x : (r ≡ PacketNext) × PacketIsNext known (λ _. ⊤) (Some i)). packet_before_end x.1.0 (known_items i.items) x.1.1 ∙ ap Some (sym x.0))
     why
 
 -- why no end was taken
@@ -275,14 +286,14 @@ EndRefusal m n r =
 abbrev pub EndFault : ANode → ANode → MemberFault → Type 0
 EndFault m n fault = (r : Reason) × (fault ≡ faults.Refused r) × EndRefusal m n r
 
-end_refused_for : (m n : ANode) (r : Reason) → IsReady (shown_of m) → LooksIn PlainLooked m n → EndRefusal m n r → link_end_refused (shown_of m) ≡ Some r
+end_refused_for : (m n : ANode) (r : Reason) → IsReady (shown_of m) → LooksIn RingWaited m n → EndRefusal m n r → link_end_refused (shown_of m) ≡ Some r
 end_refused_for m n r ready looks why = ⊎_elim
     (λ (x : take_refused (held_of m) None ≡ Some r). first_take (held_of m) _ r x)
     (λ (x : (take_refused (held_of m) None ≡ None) × MatchOption n.current ⊥ (λ l. IsEndRefusal known waiting r l.end)).
     later_take (held_of m) _ x.0 ∙ shown_before m n (λ e. IsEndRefusal known waiting r e) (λ s. end_refused (first_item s) ≡ Some r) ready looks (end_refusal_at r) x.1)
     why
 
-pub end_refusal : (m n : ANode) (fault : MemberFault) (r : Reason) → fault ≡ faults.Refused r → IsReady (shown_of m) → LooksIn PlainLooked m n → EndFault m n fault → link_end_refused (shown_of m) ≡ Some r
+pub end_refusal : (m n : ANode) (fault : MemberFault) (r : Reason) → fault ≡ faults.Refused r → IsReady (shown_of m) → LooksIn RingWaited m n → EndFault m n fault → link_end_refused (shown_of m) ≡ Some r
 end_refusal m n fault r is ready looks (q, why, refused) =
     let same : q ≡ r = cc (why, is) in
     end_refused_for m n q ready looks refused ∙ ap Some same

@@ -1,12 +1,13 @@
 use Rattle.std.proofs.Common.{◌≡◌, ℕ, map}
 use Rattle.std.specs.List.{range_with_len}
-use Rattle.ring_parties.specs.Parties.{shown_in, keeps_in}
+use Rattle.ordered_link.specs.Names.{PairName}
+use Rattle.ring_parties.specs.Parties.{keeps_in, out_seen, in_seen}
 use Rattle.ring_parties.specs.Keeps.{no_keeps}
-use Rattle.ring_parties.specs.Opened.{opened_at}
+use Rattle.ring_parties.proofs.standing.Founding.{AreMade}
 use Rattle.ring_parties.proofs.opening.opening_members.Given as goal
 
 abbrev pub invariant-loop-k : goal.invariant-loop-k
 invariant-loop-k l = record {
-  shown : map shown_in l.members.items ≡ map (opened_at l.credit l.names) (range_with_len 0 l.k);
+  made : (rings : ℕ → PairName) × AreMade rings l.credit l.names l.k l.members.items (out_seen l.last) (in_seen l.link);
   keeps : map keeps_in l.members.items ≡ map (λ (k : ℕ). no_keeps) (range_with_len 0 l.k);
 }

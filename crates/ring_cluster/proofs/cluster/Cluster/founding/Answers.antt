@@ -1,15 +1,15 @@
-use Rattle.std.proofs.Common.{sym, subst}
-use Rattle.ring_parties.specs.States.{state}
-use Rattle.ring_parties.specs.Keeps.{KeepsStand}
-use Rattle.ring_parties.specs.Standing.{StandAfter}
+use Rattle.std.proofs.Common.{◌≡◌, false, [], map}
+use Rattle.ring_cluster.specs.Seen.{collected_by}
+use Rattle.ring_cluster.proofs.rounds.Holding.{none_collected}
 use Rattle.ring_cluster.proofs.cluster.Cluster.founding.Goals as goal
 
-pub invariant_of-result : goal.invariant_of-result
-invariant_of-result c =
-    let q = (c.in_ok-parties.parties).all in
-    record {
-      standing = subst (λ names. StandAfter c.args.credit names c.new.result.items q) (sym c.in_ok-names.ensures)
-          (subst (λ events. StandAfter c.args.credit c.args.members.now events q) (sym c.new.ensures.items) c.in_ok-parties.ensures.standing);
-      keeps = subst (λ names. KeepsStand (state c.args.credit names c.new.result.items) (c.in_ok-parties.parties).keeps) (sym c.in_ok-names.ensures)
-          (subst (λ events. KeepsStand (state c.args.credit c.args.members.now events) (c.in_ok-parties.parties).keeps) (sym c.new.ensures.items) c.in_ok-parties.ensures.keeps);
-    }
+pub returns : goal.returns
+returns c =
+    let collected : collected_by c.in_ok-parties.parties.all ≡ map (λ _. 0) c.args.members.now = none_collected c.args.credit c.args.members.now c.in_ok-parties.parties.all c.in_ok-parties.ensures.opened in
+    let names : c.in_ok-names.names.items ≡ c.args.members.now = c.in_ok-names.ensures in
+    let events : c.new.result.items ≡ [] = c.new.ensures.items in
+    let given : c.new-2.result.items ≡ [] = c.new-2.ensures.items in
+    let owes : c.in_ok-parties.parties.owes ≡ false = c.in_ok-parties.ensures.delivered in
+    let agendas = c.none.ensures in
+    let rounds = c.none-2.ensures in
+    cc
