@@ -1,9 +1,10 @@
 //! Each source and sink once, over `abcdefghij`: tables of what is read and written where calls fail, and at the
-//! limits.
+//! limits. The gates, on one thread and on two.
 use crate::*;
 use ring_names::MemberId;
 use std::alloc::Global;
 use std::test::Fail;
+use std::thread::join;
 
 const TEXT: &[u8] = b"abcdefghij";
 
@@ -105,4 +106,27 @@ fn writes_to_a_writer(rt: HostRuntime) {
         && short_of(&mut WriteSink::new(room.as_mut_slice()), TEXT) == Some(4);
     assert!(rt; told && kept.as_slice() == TEXT);
     ShutGate.pass(MemberId(1), 1);
+}
+
+#[test]
+fn meets_on_two_threads_alone(rt: HostRuntime) {
+    const A: MemberId = MemberId(1);
+    const B: MemberId = MemberId(2);
+    // The passes of one thread: neither waits for long, and who comes first doesn't see the other.
+    for passes in [
+        [(A, 1), (A, 2), (A, 1)],
+        [(A, 1), (B, 1), (A, 1)],
+        [(B, 1), (A, 1), (B, 1)],
+        [(B, 2), (MemberId(3), 1), (A, 1)],
+    ] {
+        let gate = MeetGate::new(A, B, 3);
+        for (who, kind) in passes {
+            gate.pass(who, kind);
+        }
+        assert!(rt; !gate.met(), "at {passes:?}");
+    }
+    let gate = MeetGate::new(A, B, 1_000_000_000);
+    join(&rt, || gate.pass(A, 1), || gate.pass(B, 1));
+    gate.pass(A, 1);
+    assert!(rt; gate.met());
 }

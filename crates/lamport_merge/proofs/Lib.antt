@@ -1,0 +1,5 @@
+pub mod Merging
+pub mod Nexts
+pub mod Rising
+pub mod Steps
+pub mod Recording
