@@ -28,10 +28,6 @@ pub record PacketSeen : Type 0 where
   pub first : Bool
   pub lines : List LineSeen
 
--- no step has this stamp
-abbrev pub no_stamp : Stamp
-no_stamp = record { round = 0; time = 0; party = 0 }
-
 -- the line of an origin
 abbrev pub line_of : List LineSeen → ℕ → Option LineSeen
 line_of [] p = None

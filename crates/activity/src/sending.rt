@@ -3,7 +3,7 @@ ghost use Rattle.std.specs.Prelude.{◌≡◌, ℕ, ◌≤◌, ◌++◌, ◌∷�
 ghost use Rattle.group_view.specs.Ring.{AreDistinct};
 ghost use Rattle.activity.specs.Kept.{KeptRow, got_of, kept_of, origins_of};
 ghost use Rattle.activity.specs.LastSent.{sent_of};
-ghost use Rattle.activity.specs.Packets.{no_stamp, line_of};
+ghost use Rattle.activity.specs.Packets.{line_of};
 ghost use Rattle.activity.specs.Diff.{has_line as line_there, lo_of, line_from, next_line, lines_of, IsNotAbove};
 ghost use Rattle.activity.specs.Shown.{kept_in, last_sent_of};
 
@@ -14,33 +14,27 @@ use crate::tables::Tables;
 use ring_names::{Items, MemberId, OutOfMemory, Stamp};
 use std::alloc::Global;
 
-/// What a packet carries before its put is stamped.
-const NO_STAMP: Stamp = Stamp {
-    round: 0,
-    time: 0,
-    party: 0,
-};
-
-/// The next packet on a link, of a member whose view is of this version: a first one with all that isn't
-/// forgotten, of each origin with a message; any other with what is new since the last one, of each origin
-/// whose numbers aren't the last sent. Each message that goes with it is copied once. As the part of
-/// `gm:send_right` that makes the `activity`.
+/// The next packet on a link, with this stamp, of a member whose view is of this version: a first one with
+/// all that isn't forgotten, of each origin with a message; any other with what is new since the last one, of
+/// each origin whose numbers aren't the last sent. Each message that goes with it is copied once. As the part
+/// of `gm:send_right` that makes the `activity`.
 pub fn diff(
     alloc: Global,
     sent: &Sent,
     tables: &Tables,
+    stamp: Stamp,
     view: u32,
     first: bool,
 ) -> Result<Packet, OutOfMemory>
     requires { IsNotAbove sent.now tables.now }
     ensures packet { IfOk result (λ packet. packet
-        ≡ record { stamp = no_stamp; view = view; first = first; lines = lines_of first sent.now tables.now }) }
+        ≡ record { stamp = stamp; view = view; first = first; lines = lines_of first sent.now tables.now }) }
     ensures lines { IfOk result (λ packet. (p : ℕ) → line_of packet.lines p
         ≡ next_line first p (kept_of tables.now p) (sent_of sent.now p)) }
 {
     let lines = next_lines(alloc, sent, tables, first)?;
     Ok(Packet {
-        stamp: NO_STAMP,
+        stamp,
         view,
         first,
         lines: Items::from_vec(lines),

@@ -5,7 +5,7 @@ ghost use Rattle.std.specs.Prelude.{OnOk, IfOk};
 use crate::*;
 use group_view::View;
 use queue_core::Message;
-use ring_names::{Body, MemberId, Name};
+use ring_names::{Body, MemberId, Name, Stamp};
 use std::alloc::Global;
 use std::str::from_utf8;
 use std::test::Fail;
@@ -47,6 +47,12 @@ const ROWS: [Row; 4] = [
     },
 ];
 
+const STAMP: Stamp = Stamp {
+    round: 1,
+    time: 4,
+    party: 1,
+};
+
 fn publish(
     alloc: Global,
     sent: &Sent,
@@ -81,7 +87,7 @@ fn send(alloc: Global, sent: &mut Sent, tables: &Tables, first: bool) -> Result<
     requires { IsNotAbove sent.old tables.now }
     ensures { IfOk result (λ _. IsNotAbove sent.new tables.now) }
 {
-    let packet = diff(alloc, sent, tables, 1, first)?;
+    let packet = diff(alloc, sent, tables, STAMP, 1, first)?;
     sent.make_room(&packet)?;
     sent.note(&packet);
     Ok(packet)

@@ -4,10 +4,14 @@ use Rattle.std.specs.declared.vec.Vec.{Vec}
 use Rattle.std.specs.declared.alloc.Global.{Global}
 use Rattle.queue_core.specs.declared.message.Message.{Message}
 use Rattle.ring_names.specs.declared.reason.Reason.{Reason}
+use Rattle.ring_names.specs.declared.numbers.Stamp.{Stamp}
+use Rattle.ordered_link.specs.declared.grant.Grant.{Grant}
+use Rattle.lamport_merge.specs.Recorder.{Recorded, met, noted, given, is_late}
 use Rattle.group_view.specs.View.{Group}
 use Rattle.group_view.specs.declared.link.LinkName.{LinkName}
 use Rattle.group_view.specs.declared.request.Request.{Request}
 use Rattle.ring_rules.specs.declared.event.Event.{Event}
+use Rattle.ring_rules.specs.declared.event.Event.TheVariants as event
 use Rattle.ring_rules.specs.Machine.{World}
 use Rattle.ring_rules.specs.Event.{refusal}
 use Rattle.ordered_link.specs.declared.ends.LinkOut.{Ghosts}
@@ -24,9 +28,10 @@ use Rattle.activity.specs.Packets.{PacketSeen}
 use Rattle.gm_member.specs.Packets.{packet_by_id, known_at}
 use Rattle.gm_member.specs.News.{news_of}
 use Rattle.gm_member.specs.Held.{Held, active_refused, published_held, put_refused, put_held, take_refused, took_held, gain_refused, gained_held, ended_held, stopped_held, pick_refused, first_at_door, picked_held}
+use Rattle.gm_member.specs.Said.{said}
 use Rattle.gm_member.specs.Stands.{WhereItStands, StepsTo}
 use Rattle.gm_member.specs.Ends.{IsPutFault, IsTakeFault, IsEndRefusal}
-use Rattle.gm_member.specs.Shown.{Ends, held_of, ends_of, in_name_of, in_end, with_in, has_in, StaysReady, OutIsReady, PutsOn, LooksOut, LooksIn, TookOn, LeavesOn, EndsOn, PicksOn, LooksBy, MovesTo}
+use Rattle.gm_member.specs.Shown.{Ends, held_of, ends_of, recorded_of, spare_of, in_name_of, in_end, with_in, has_in, StaysReady, OutIsReady, PutsOn, LooksOut, LooksIn, TookOn, LeavesOn, EndsOn, PicksOn, LooksBy, MovesTo}
 
 -- ---- conditions, by the first that fails
 
@@ -52,9 +57,9 @@ pub record HandsBack {A X : Type 0} (failing : Option Reason) (given : X) (resul
 -- ---- the calls, from a member m to n
 
 module _ {O I : Type 0} {g : Ghosts O Load} where
-  -- it has the id and the credit that it had, and keeps of each origin what it kept
+  -- it has the id and the credit that it had, and keeps of each origin what it kept, and what it has recorded
   abbrev pub SameSelf : Member O I g → Member O I g → Type 0
-  SameSelf m n = (n.id ≡ m.id) × (n.credit ≡ m.credit) × (n.tables ≡ m.tables)
+  SameSelf m n = (n.id ≡ m.id) × (n.credit ≡ m.credit) × (n.tables ≡ m.tables) × (n.recorder ≡ m.recorder)
 
   -- the links to it, with the ends of those that it has left
   abbrev pub KeepsIns : Member O I g → Member O I g → Type 0
@@ -68,6 +73,12 @@ module _ {O I : Type 0} {g : Ghosts O Load} where
   abbrev pub SameLinks : Member O I g → Member O I g → Type 0
   SameLinks m n = (n.out ≡ m.out) × (n.current ≡ m.current) × (n.door ≡ m.door) × (n.old_outs.items ≡ m.old_outs.items) × (n.old_ins ≡ m.old_ins)
 
+  -- What a call has recorded that makes room for its own entry: r where it is done, else nothing; and there is no less room.
+  pub record Records {A E : Type 0} (r : Recorded) (m n : Member O I g) (result : Result A E) : Type 0 where
+    pub ok : OnOk result (recorded_of n ≡ r)
+    pub err : OnErr result (recorded_of n ≡ recorded_of m)
+    pub spare : spare_of m ≤ spare_of n
+
   -- A message joins the member's own log, and its number there is the answer.
   pub record Publishes (message : Message) (m n : Member O I g) (result : Result ℕ (Message × MemberFault)) : Type 0 where
     pub ok : OnOk result (held_of n ≡ published_held (held_of m) message)
@@ -75,55 +86,69 @@ module _ {O I : Type 0} {g : Ghosts O Load} where
     pub err : OnErr result (held_of n ≡ held_of m)
     pub ends : ends_of n ≡ ends_of m
     pub kept : OnErr result (StaysReady m n)
+    pub records : Records (said (held_of m).name message (recorded_of m)) m n result
 
   -- The next packet goes on the link on which the member sends; else the end of that link may know more.
   pub record Puts (free : O → ℕ) (ended : O → Bool) (puts : O → Item Load → O → Type 0) (looked : O → O → Type 0) (m n : Member O I g) (result : Result (Unit {0}) MemberFault) : Type 0 where
     pub ok : OnOk result (held_of n ≡ put_held (held_of m))
-    pub packet : OnOk result (PutsOn puts m n)
+    pub packet : OnOk result (PutsOn puts (given (recorded_of n)) m n)
     pub fault : IfErr result (λ fault. IsRefusal (put_refused (held_of m)) fault ⊎ ((put_refused (held_of m) ≡ None) × IsPutFault free fault (ends_of n).out))
     pub err : OnErr result (held_of n ≡ held_of m)
     pub looks : OnErr result (LooksOut looked m n)
     pub ready : OutIsReady ended n
     pub kept : OnErr result (StaysReady m n)
+    pub records : Records (noted (event.Put (held_of m).name) (recorded_of m)) m n result
 
   -- The oldest packet is taken from the link from which the member takes, and what it brings is the answer.
-  pub record Takes (known : I → List (Item Load)) (waiting : I → Option ℕ) (takes : I → Item Load → I → Type 0) (looked : I → I → Type 0) (sends : I → ℕ → I → Type 0) (m n : Member O I g) (result : Result (Vec Taken Global) MemberFault) : Type 0 where
+  pub record Takes (known : I → List (Item Load)) (waiting : I → Option Grant) (takes : I → Item Load → I → Type 0) (looked : I → I → Type 0) (sends : I → Grant → I → Type 0) (m n : Member O I g) (result : Result (Vec Taken Global) MemberFault) : Type 0 where
     pub ok : IfOk result (λ taken. (k : PacketSeen) × (k.view ≤ (held_of m).view.version) × (held_of n ≡ took_held (held_of m) (packet_by_id k))
-        × (taken.items ≡ news_of (held_of m) (packet_by_id k)) × TookOn waiting takes looked sends k m n)
+        × (taken.items ≡ news_of (held_of m) (packet_by_id k)) × TookOn waiting takes looked sends (given (recorded_of n)) k m n
+        × (recorded_of n ≡ noted (event.Take (held_of m).name) (met k.stamp (recorded_of m))))
     pub fault : IfErr result (λ fault. IsRefusal (take_refused (held_of m) None) fault
-        ⊎ ((take_refused (held_of m) None ≡ None) × MatchOption n.current ⊥ (λ l. IsTakeFault known waiting (held_of m).view.version fault l.end)))
+        ⊎ ((take_refused (held_of m) None ≡ None) × MatchOption n.current ⊥ (λ l. IsTakeFault known waiting (is_late (recorded_of m)) (held_of m).view.version fault l.end)))
     pub err : OnErr result (held_of n ≡ held_of m)
     pub looks : OnErr result (LooksIn looked m n)
     pub kept : OnErr result (StaysReady m n)
+    pub unrecorded : OnErr result (recorded_of n ≡ recorded_of m)
+    pub spare : spare_of m ≤ spare_of n
 
   -- The end of that link is taken, and the member leaves it.
-  pub record TakesEnd (known : I → List (Item Load)) (waiting : I → Option ℕ) (takes : I → Item Load → I → Type 0) (looked : I → I → Type 0) (m n : Member O I g) (result : Result EndReason MemberFault) : Type 0 where
+  pub record TakesEnd (known : I → List (Item Load)) (waiting : I → Option Grant) (takes : I → Item Load → I → Type 0) (looked : I → I → Type 0) (m n : Member O I g) (result : Result EndReason MemberFault) : Type 0 where
     pub ok : OnOk result (held_of n ≡ ended_held (held_of m))
-    pub leaves : IfOk result (λ reason. LeavesOn takes looked reason m n)
+    pub leaves : IfOk result (λ reason. (stamp : Stamp) × LeavesOn takes looked reason stamp m n
+        × (recorded_of n ≡ noted (event.TakeEnd (held_of m).name) (met stamp (recorded_of m))))
+    pub spare : OnOk result (spare_of m ≡ spare_of n + 1)
     pub fault : IfErr result (λ fault. (r : Reason) × (fault ≡ faults.Refused r)
-        × ((take_refused (held_of m) None ≡ Some r) ⊎ ((take_refused (held_of m) None ≡ None) × MatchOption n.current ⊥ (λ l. IsEndRefusal known waiting r l.end))))
+        × ((take_refused (held_of m) None ≡ Some r) ⊎ ((take_refused (held_of m) None ≡ None) × MatchOption n.current ⊥ (λ l. IsEndRefusal known waiting (is_late (recorded_of m)) r l.end))))
     pub err : OnErr result (held_of n ≡ held_of m)
     pub looks : OnErr result (LooksIn looked m n)
     pub kept : OnErr result (StaysReady m n)
+    pub unrecorded : OnErr result (n.recorder ≡ m.recorder)
 
-  -- A call that only a condition can fail: the member then holds h, and P of its ends; else all of it is as it was.
-  pub record Acts (failing : Option Reason) (h : Held) (P : Type 0) (m n : Member O I g) (result : Result (Unit {0}) MemberFault) : Type 0 where
+  -- A call that only a condition can fail: the member then holds h, and P of its ends, and has recorded r, for which there was room; else
+  -- all of it is as it was.
+  pub record Acts (failing : Option Reason) (h : Held) (P : Type 0) (r : Recorded) (m n : Member O I g) (result : Result (Unit {0}) MemberFault) : Type 0 where
     pub ok : OnOk result (held_of n ≡ h)
     pub ends : OnOk result P
+    pub recorded : OnOk result (recorded_of n ≡ r)
+    pub spare : OnOk result (spare_of m ≡ spare_of n + 1)
     pub fault : IfErr result (λ fault. IsRefusal failing fault)
     pub err : OnErr result (n ≡ m)
 
   -- It stops, and the link on which it sends ends.
   abbrev pub Stops : (O → Item Load → O → Type 0) → Member O I g → Member O I g → Result (Unit {0}) MemberFault → Type 0
-  Stops puts m n result = Acts (active_refused (held_of m) None) (stopped_held (held_of m)) (EndsOn puts Stopped m n) m n result
+  Stops puts m n result = Acts (active_refused (held_of m) None) (stopped_held (held_of m)) (EndsOn puts Stopped (given (recorded_of n)) m n)
+      (noted (event.Stop (held_of m).name) (recorded_of m)) m n result
 
   -- A grant becomes credit of the link on which it sends.
-  abbrev pub Gains : ℕ → Member O I g → Member O I g → Result (Unit {0}) MemberFault → Type 0
-  Gains amount m n result = Acts (gain_refused (held_of m)) (gained_held (held_of m) amount) (ends_of n ≡ record (ends_of m) { returned = None }) m n result
+  abbrev pub Gains : Grant → Member O I g → Member O I g → Result (Unit {0}) MemberFault → Type 0
+  Gains grant m n result = Acts (gain_refused (held_of m)) (gained_held (held_of m) grant.amount) (ends_of n ≡ record (ends_of m) { returned = None })
+      (noted (event.Gain (held_of m).name) (met grant.stamp (recorded_of m))) m n result
 
   -- It takes from now on from the first link at its door that it may.
   abbrev pub PicksUp : Member O I g → Member O I g → Result (Unit {0}) MemberFault → Type 0
-  PicksUp m n result = Acts (pick_refused (held_of m)) (picked_held (held_of m)) ((i : ℕ) × (first_at_door (held_of m) ≡ Some i) × PicksOn i m n) m n result
+  PicksUp m n result = Acts (pick_refused (held_of m)) (picked_held (held_of m)) ((i : ℕ) × (first_at_door (held_of m) ≡ Some i) × PicksOn i m n)
+      (noted (event.Pick (held_of m).name) (recorded_of m)) m n result
 
   -- The member reads a view and then holds h, and the answer is what is to be asked of the registrar then.
   pub record Reads {E : Type 0} (are_fresh : ℕ → O → I → Type 0) (free : O → ℕ) (ended : O → Bool) (puts : O → Item Load → O → Type 0) (h : Held) (view : Group) (m n : Member O I g) (result : Result (Vec (Request I) Global) E) : Type 0 where

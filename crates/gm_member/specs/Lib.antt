@@ -14,3 +14,4 @@ pub mod Telling
 pub mod View
 pub mod Within
 pub mod Named
+pub mod Said

@@ -1,5 +1,7 @@
 -- What stands on a link, and the grants that are given for it.
-use Rattle.std.specs.Prelude.{◌≡◌, ℕ, Option, None, Some}
+use Rattle.std.specs.Prelude.{◌≡◌, ℕ, Bool, true, List, [], ◌∷◌, Option, None, Some}
+use Rattle.ring_names.specs.declared.numbers.Stamp.{Stamp}
+use Rattle.ordered_link.specs.declared.grant.Grant.{Grant}
 use Rattle.ordered_link.specs.declared.item.Item.{Item}
 use Rattle.ordered_link.specs.declared.item.Item.TheVariants as item
 use Rattle.activity.specs.declared.packet.Load.{Load}
@@ -14,7 +16,17 @@ packet_seen (load.Packet k) = k
 abbrev pub as_item : PacketSeen → Item Load
 as_item k = item.Load (load.Packet k)
 
--- a grant was given where one is due
-abbrev pub GrantsIf : {I : Type 0} → Option ℕ → (I → ℕ → I → Type 0) → I → I → Type 0
-GrantsIf None sends i j = j ≡ i
-GrantsIf (Some amount) sends i j = sends i amount j
+-- the stamp under which an item was put
+abbrev pub stamp_of : Item Load → Stamp
+stamp_of (item.Load x) = (packet_seen x).stamp
+stamp_of (item.End reason stamp) = stamp
+
+-- of these items none may be taken now: there is none, or the first one's stamp says that it comes too late
+abbrev pub NoneIsDue : (Stamp → Bool) → List (Item Load) → Type 0
+NoneIsDue late [] = Unit {0}
+NoneIsDue late (x ∷ items) = late (stamp_of x) ≡ true
+
+-- a grant was given under a stamp, where one is due
+abbrev pub GrantsIf : {I : Type 0} → Option ℕ → Stamp → (I → Grant → I → Type 0) → I → I → Type 0
+GrantsIf None stamp sends i j = j ≡ i
+GrantsIf (Some amount) stamp sends i j = sends i (record { amount = amount; stamp = stamp }) j

@@ -2,6 +2,9 @@
 use Rattle.std.specs.List.{slice_get}
 use Rattle.std.specs.Prelude.{◌≡◌, ◌-◌, nat_eq, if◌then◌else◌, ◌⊎◌, ◌+◌, ◌<◌, ◌≤◌, vec_len, vec_capacity, ◌++◌, ◌∷◌, [], ℕ, Bool, true, false, not, List, length, map, ⊤, Option, Some, None, option_map, slice_index_or, slice_set, is_some, nat_lt, IsSome, MatchOption}
 use Rattle.credit_flow.specs.Credit.{grant_due}
+use Rattle.ring_names.specs.declared.numbers.Stamp.{Stamp}
+use Rattle.ordered_link.specs.declared.grant.Grant.{Grant}
+use Rattle.lamport_merge.specs.Recorder.{Recorded}
 use Rattle.ordered_link.specs.declared.ends.LinkOut.{Ghosts}
 use Rattle.ordered_link.specs.declared.item.EndReason.{EndReason}
 use Rattle.group_view.specs.View.{Group}
@@ -27,7 +30,7 @@ use Rattle.gm_member.specs.Ends.{EndIsOpen, EndPuts, EndSends, EndLooks, EndTook
 -- those at its door; and those that it has replaced or left, the oldest first. An end that is lent isn't there.
 pub record Ends (O I : Type 0) : Type 0 where
   pub out : Option O
-  pub returned : Option ℕ
+  pub returned : Option Grant
   pub link : Option I
   pub door : List (Option I)
   pub old_outs : List (LinkName × O)
@@ -60,6 +63,14 @@ module _ {O I : Type 0} {g : Ghosts O Load} where
     old_outs = m.old_outs.items;
     old_ins = m.old_ins.items;
   }
+
+  -- what it has recorded of the round
+  abbrev pub recorded_of : Member O I g → Recorded
+  recorded_of m = m.recorder.recorded
+
+  -- for how many more entries there is room
+  abbrev pub spare_of : Member O I g → ℕ
+  spare_of m = m.recorder.spare
 
 -- the name of the link on which a member sends
 abbrev pub out_name_of : Held → Option LinkName
@@ -112,11 +123,11 @@ module _ {O I : Type 0} {g : Ghosts O Load} where
   abbrev pub SameOut : Member O I g → Member O I g → Type 0
   SameOut m n = (n.out ≡ m.out) × (n.door ≡ m.door) × (n.old_outs ≡ m.old_outs) × (n.old_ins ≡ m.old_ins)
 
-  -- the next packet was put on the link on which it sends
-  abbrev pub PutsOn : (O → Item Load → O → Type 0) → Member O I g → Member O I g → Type 0
-  PutsOn puts m n =
+  -- the next packet was put, under a stamp, on the link on which it sends
+  abbrev pub PutsOn : (O → Item Load → O → Type 0) → Stamp → Member O I g → Member O I g → Type 0
+  PutsOn puts stamp m n =
       (l : OutLink O) × (l' : OutLink O) × (m.out ≡ Some l) × (n.out ≡ Some l')
-      × EndSends puts (packet_on m.view.version (all_kept m.tables) (out_of l)) l.end l'.end × (l'.returned ≡ l.returned) × SameIns m n
+      × EndSends puts stamp (packet_on m.view.version (all_kept m.tables) (out_of l)) l.end l'.end × (l'.returned ≡ l.returned) × SameIns m n
 
   -- the end of the link on which it sends may know more
   abbrev pub LooksOut : (O → O → Type 0) → Member O I g → Member O I g → Type 0
@@ -132,23 +143,23 @@ module _ {O I : Type 0} {g : Ghosts O Load} where
       × ((n.current ≡ m.current)
       ⊎ (l : InLink I) × (l' : InLink I) × (m.current ≡ Some l) × (n.current ≡ Some l') × EndLooks looked l.end l'.end)
 
-  -- a packet was taken from the link from which it takes, and a grant given where one is due
-  abbrev pub TookOn : (I → Option ℕ) → (I → Item Load → I → Type 0) → (I → I → Type 0) → (I → ℕ → I → Type 0) → PacketSeen → Member O I g → Member O I g → Type 0
-  TookOn waiting takes looked sends k m n =
+  -- a packet was taken from the link from which it takes, and a grant given under a stamp where one is due
+  abbrev pub TookOn : (I → Option Grant) → (I → Item Load → I → Type 0) → (I → I → Type 0) → (I → Grant → I → Type 0) → Stamp → PacketSeen → Member O I g → Member O I g → Type 0
+  TookOn waiting takes looked sends stamp k m n =
       (l : InLink I) × (l' : InLink I) × (m.current ≡ Some l) × (n.current ≡ Some l')
-      × EndTook waiting takes looked sends (grant_due l.counted) k l.end l'.end × SameOut m n
+      × EndTook waiting takes looked sends (grant_due l.counted) stamp k l.end l'.end × SameOut m n
 
-  -- the end of that link was taken, and the end that the member has of it is the last of those that it has left
-  abbrev pub LeavesOn : (I → Item Load → I → Type 0) → (I → I → Type 0) → EndReason → Member O I g → Member O I g → Type 0
-  LeavesOn takes looked reason m n =
-      (l : InLink I) × (i : I) × (m.current ≡ Some l) × EndEnds takes looked reason l.end (Some i) × (n.current ≡ None)
+  -- the end of that link, which carries a stamp, was taken, and the end that the member has of it is the last of those that it has left
+  abbrev pub LeavesOn : (I → Item Load → I → Type 0) → (I → I → Type 0) → EndReason → Stamp → Member O I g → Member O I g → Type 0
+  LeavesOn takes looked reason stamp m n =
+      (l : InLink I) × (i : I) × (m.current ≡ Some l) × EndEnds takes looked reason stamp l.end (Some i) × (n.current ≡ None)
       × (n.old_ins.items ≡ m.old_ins.items ++ (ring_link l.from.0 m.id.0 l.opened, i) ∷ [])
       × (n.out ≡ m.out) × (n.door ≡ m.door) × (n.old_outs ≡ m.old_outs)
 
-  -- the link on which it sends ends
-  abbrev pub EndsOn : (O → Item Load → O → Type 0) → EndReason → Member O I g → Member O I g → Type 0
-  EndsOn puts reason m n =
-      SameIns m n × MatchOption m.out (n.out ≡ None) (λ l. (l' : OutLink O) × (n.out ≡ Some l') × EndPuts puts (item.End reason) l.end l'.end × (l'.returned ≡ l.returned))
+  -- the link on which it sends ends, under a stamp
+  abbrev pub EndsOn : (O → Item Load → O → Type 0) → EndReason → Stamp → Member O I g → Member O I g → Type 0
+  EndsOn puts reason stamp m n =
+      SameIns m n × MatchOption m.out (n.out ≡ None) (λ l. (l' : OutLink O) × (n.out ≡ Some l') × EndPuts puts (item.End reason stamp) l.end l'.end × (l'.returned ≡ l.returned))
 
   -- the link at a place of its door is the one from which it takes
   abbrev pub PicksOn : ℕ → Member O I g → Member O I g → Type 0
@@ -157,18 +168,18 @@ module _ {O I : Type 0} {g : Ghosts O Load} where
       × (n.out ≡ m.out) × (n.old_outs ≡ m.old_outs) × (n.old_ins ≡ m.old_ins)
 
   -- a grant of the link on which it sends is kept: it was, or it has been taken from the end now
-  abbrev pub KeepsGrant : (O → ℕ → O → Type 0) → ℕ → Member O I g → Member O I g → Type 0
-  KeepsGrant gains amount m n =
-      SameIns m n × (l : OutLink O) × (l' : OutLink O) × (m.out ≡ Some l) × (n.out ≡ Some l') × (l'.returned ≡ Some amount)
-      × (((l.returned ≡ Some amount) × (l'.end ≡ l.end))
-      ⊎ (l.returned ≡ None) × (o : O) × (p : O) × (l.end ≡ Some o) × (l'.end ≡ Some p) × gains o amount p)
+  abbrev pub KeepsGrant : (O → Grant → O → Type 0) → Grant → Member O I g → Member O I g → Type 0
+  KeepsGrant gains grant m n =
+      SameIns m n × (l : OutLink O) × (l' : OutLink O) × (m.out ≡ Some l) × (n.out ≡ Some l') × (l'.returned ≡ Some grant)
+      × (((l.returned ≡ Some grant) × (l'.end ≡ l.end))
+      ⊎ (l.returned ≡ None) × (o : O) × (p : O) × (l.end ≡ Some o) × (l'.end ≡ Some p) × gains o grant p)
 
   -- no grant has come back on it
-  abbrev pub NoGrantBack : (O → List ℕ) → Member O I g → Type 0
+  abbrev pub NoGrantBack : (O → List Grant) → Member O I g → Type 0
   NoGrantBack grants m = MatchOption m.out ⊤ (λ l. (l.returned ≡ None) × MatchOption l.end ⊤ (λ o. grants o ≡ []))
 
   -- one is kept, or has come back
-  abbrev pub GrantIsBack : (O → List ℕ) → Member O I g → Type 0
+  abbrev pub GrantIsBack : (O → List Grant) → Member O I g → Type 0
   GrantIsBack grants m = MatchOption m.out ⊥ (λ l. IsSome l.returned ⊎ MatchOption l.end ⊥ (λ o. 0 < length (grants o)))
 
   -- of the links to it those stay that another view keeps, and of the others the ends join those that it has left

@@ -14,6 +14,8 @@ mod member;
 mod news;
 mod numbers;
 mod questions;
+mod recording;
+mod saying;
 mod spare;
 mod taken;
 mod telling;

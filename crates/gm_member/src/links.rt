@@ -10,8 +10,10 @@ use crate::taken::Taken;
 use activity::{Change, Line, Load, Packet, Sent, Tables, diff};
 use credit_flow::{CreditIn, CreditOut};
 use group_view::{LinkKind, LinkName, View};
-use ordered_link::{EndReason, Item, LinkIn, LinkOut};
-use ring_names::{Items, MemberId, OutOfMemory, Reason};
+use lamport_merge::Recorder;
+use ordered_link::{EndReason, Grant, Item, LinkIn, LinkOut};
+use ring_names::{Items, MemberId, Name, OutOfMemory, Reason, Stamp};
+use ring_rules::Event;
 use std::alloc::Global;
 
 /// The link on which a member sends: to whom, from which version of its view on, the numbers last sent on it, and
@@ -24,7 +26,7 @@ pub struct OutLink<O> {
     pub(crate) fresh: bool,
     pub(crate) sent: Sent,
     pub(crate) credit: CreditOut,
-    pub(crate) returned: Option<u32>,
+    pub(crate) returned: Option<Grant>,
     pub(crate) end: Option<O>,
     ghost unsent: { (p : ℕ) → fresh ≡ true → ((sent_of sent p).got ≡ 0) × ((sent_of sent p).forgot ≡ 0) },
 }
@@ -76,20 +78,22 @@ impl<O> OutLink<O> {
         None
     }
 
-    /// The next packet of these tables.
+    /// The next packet of these tables, with this stamp.
     pub(crate) fn packet(
         &self,
         alloc: Global,
+        stamp: Stamp,
         version: u32,
         tables: &Tables,
     ) -> Result<Packet, OutOfMemory>
         requires { IsNotAbove (self.now).sent tables.now }
         ensures said { IfOk result (λ packet. packet_by_id packet
             ≡ packet_on version (all_kept tables.now) (out_of self.now)) }
+        ensures stamped { IfOk result (λ packet. packet.stamp ≡ stamp) }
         ensures lines { IfOk result (λ packet. (p : ℕ) → line_of packet.lines p
             ≡ next_line (self.now).fresh p (kept_of tables.now p) (sent_of (self.now).sent p)) }
     {
-        diff(alloc, &self.sent, tables, version, self.fresh)
+        diff(alloc, &self.sent, tables, stamp, version, self.fresh)
     }
 }
 
@@ -101,10 +105,11 @@ impl<O: LinkOut<Load>> OutLink<O> {
     ghost use Rattle.gm_member.specs.View.{out_of, all_kept};
     ghost use Rattle.gm_member.specs.Ends.{EndIsOpen, EndSends, EndLooks, IsPutFault};
 
-    /// The next packet of these tables goes on the link, of a sender whose view is of this version.
+    /// The next packet of these tables goes on the link, with this stamp, of a sender whose view is of this version.
     pub(crate) fn put(
         &mut self,
         alloc: Global,
+        stamp: Stamp,
         version: u32,
         tables: &Tables,
     ) -> Result<(), MemberFault>
@@ -112,7 +117,7 @@ impl<O: LinkOut<Load>> OutLink<O> {
         requires open { EndIsOpen O.ended self.old.end }
         requires enabled { out_refused (all_kept tables.now) (out_of self.old) ≡ None }
         ensures ok { OnOk result (out_of self.new ≡ put_on (all_kept tables.now) (out_of self.old)) }
-        ensures packet { OnOk result (EndSends O.puts (packet_on version (all_kept tables.now) (out_of self.old))
+        ensures packet { OnOk result (EndSends O.puts stamp (packet_on version (all_kept tables.now) (out_of self.old))
             self.old.end self.new.end) }
         ensures kept { self.new.returned ≡ self.old.returned }
         ensures err { OnErr result (out_of self.new ≡ out_of self.old) }
@@ -121,7 +126,7 @@ impl<O: LinkOut<Load>> OutLink<O> {
         ensures open { EndIsOpen O.ended self.new.end }
         ensures there { IsNotAbove self.new.sent tables.now }
     {
-        let packet = self.packet(alloc, version, tables)?;
+        let packet = self.packet(alloc, stamp, version, tables)?;
         let numbers = numbers_of(alloc, &packet)?;
         self.sent.make_room(&numbers)?;
         let Some(end) = &mut self.end else {
@@ -144,30 +149,30 @@ impl<O: LinkOut<Load> + Drop> OutLink<O> {
     ghost use Rattle.gm_member.specs.View.{out_of};
     ghost use Rattle.gm_member.specs.Ends.{EndIsOpen, EndPuts, EndLooks};
 
-    /// The link ends.
-    pub(crate) fn finish(&mut self, reason: EndReason)
+    /// The link ends, under this stamp.
+    pub(crate) fn finish(&mut self, reason: EndReason, stamp: Stamp)
         requires { EndIsOpen O.ended self.old.end }
         ensures same { out_of self.new ≡ out_of self.old }
         ensures sent { self.new.sent ≡ self.old.sent }
-        ensures ends { EndPuts O.puts (Item.End reason) self.old.end self.new.end }
+        ensures ends { EndPuts O.puts (Item.End reason stamp) self.old.end self.new.end }
         ensures kept { self.new.returned ≡ self.old.returned }
     {
         let Some(end) = &mut self.end else {
             unreachable!()
         };
-        end.end(reason);
+        end.end(reason, stamp);
     }
 
-    /// The end of the link, on which its end was put.
-    pub(crate) fn into_ended(self, reason: EndReason) -> O
+    /// The end of the link, on which its end was put, under this stamp.
+    pub(crate) fn into_ended(self, reason: EndReason, stamp: Stamp) -> O
         requires { EndIsOpen O.ended self.end }
-        ensures { EndPuts O.puts (Item.End reason) self.end (Some result) }
+        ensures { EndPuts O.puts (Item.End reason stamp) self.end (Some result) }
     {
         let mut link = self;
         let Some(mut end) = link.end.take() else {
             unreachable!()
         };
-        end.end(reason);
+        end.end(reason, stamp);
         end
     }
 
@@ -193,14 +198,14 @@ impl<O: LinkOut<Load> + Drop> OutLink<O> {
     }
 
     /// The grant that is kept, or the oldest that has come back, which is kept from now on.
-    pub(crate) fn granted(&mut self) -> Option<u32>
+    pub(crate) fn granted(&mut self) -> Option<Grant>
         requires { EndIsOpen O.ended self.old.end }
         ensures same { out_of self.new ≡ out_of self.old }
         ensures sent { self.new.sent ≡ self.old.sent }
-        ensures some { IfSome result (λ amount. (self.new.returned ≡ Some amount)
-            × (((self.old.returned ≡ Some amount) × (self.new.end ≡ self.old.end))
+        ensures some { IfSome result (λ grant. (self.new.returned ≡ Some grant)
+            × (((self.old.returned ≡ Some grant) × (self.new.end ≡ self.old.end))
             ⊎ (self.old.returned ≡ None) × (o : O) × (p : O) × (self.old.end ≡ Some o) × (self.new.end ≡ Some p)
-            × O.gains o amount p)) }
+            × O.gains o grant p)) }
         ensures none { IfNone result ((self.old.returned ≡ None) × (self.new.returned ≡ None)
             × EndLooks O.looked self.old.end self.new.end × MatchOption self.new.end ⊤ (λ o. O.grants o ≡ [])) }
         ensures open { EndIsOpen O.ended self.new.end }
@@ -233,9 +238,11 @@ impl<I> InLink<I> {
 }
 
 impl<I: LinkIn<Load>> InLink<I> {
-    ghost use Rattle.std.specs.Prelude.{◌≡◌, ℕ, ◌≤◌, ◌+◌, OnOk, OnErr, IfOk, IfErr, None, Some, IsSome};
+    ghost use Rattle.std.specs.Prelude.{◌≡◌, ℕ, ◌≤◌, ◌+◌, false, OnOk, OnErr, IfOk, IfErr, None, Some, IsSome};
     ghost use Rattle.std.specs.Prelude.{MatchOption};
     ghost use Rattle.credit_flow.specs.Credit.{grant_due};
+    ghost use Rattle.lamport_merge.specs.Recorder.{is_late, is_used_up, given, noted, met};
+    ghost use Rattle.ring_rules.specs.declared.event.Event.TheVariants.{Take as Took};
     ghost use Rattle.ring_rules.specs.Rows.{most_members};
     ghost use Rattle.ring_rules.specs.Step.{is_owned};
     ghost use Rattle.activity.specs.Kept.{KeepsRows, kept_of};
@@ -256,10 +263,15 @@ impl<I: LinkIn<Load>> InLink<I> {
         tables: &mut Tables,
         view: &View,
         id: MemberId,
+        recorder: &mut Recorder,
     ) -> Result<(Vec<Taken>, Vec<Change>, Load), MemberFault>
         requires there { IsSome self.old.end }
         ensures same { in_of self.new ≡ in_of self.old }
         ensures ok { IfOk result (λ r. EndTakes I.waiting I.takes I.looked r.2 self.old.end self.new.end) }
+        ensures early { IfOk result (λ r. is_late (recorder.old).recorded (packet_seen r.2).stamp ≡ false) }
+        ensures recorded { (recorder.new).recorded ≡ (recorder.old).recorded }
+        ensures spare { (recorder.old).spare ≤ (recorder.new).spare }
+        ensures roomy { OnOk result ((recorder.old).spare + 1 ≤ (recorder.new).spare) }
         ensures version { IfOk result (λ r. (packet_seen r.2).view ≤ view.now.version) }
         ensures news { IfOk result (λ r. r.0.items
             ≡ news_below most_members (λ p. is_owned view.now id.0 self.old.from.0 (p + 1)) (all_kept tables.old)
@@ -268,7 +280,7 @@ impl<I: LinkIn<Load>> InLink<I> {
             ≡ changes_of (owned view.now id.0 self.old.from.0) tables.new (packet_seen r.2).lines) }
         ensures room { IfOk result (λ r. AreReady tables.new r.1.items) }
         ensures kept { KeepsRows tables.old tables.new }
-        ensures fault { IfErr result (λ fault. IsTakeFault I.known I.waiting view.now.version fault self.new.end) }
+        ensures fault { IfErr result (λ fault. IsTakeFault I.known I.waiting (is_late (recorder.old).recorded) view.now.version fault self.new.end) }
         ensures looks { OnErr result (EndLooks I.looked self.old.end self.new.end) }
     {
         let from = self.from;
@@ -277,12 +289,16 @@ impl<I: LinkIn<Load>> InLink<I> {
         };
         let (news, changes) = match end.peek() {
             Some(Item::Load(Load::Packet(packet))) => {
+                if recorder.is_late(packet.stamp) {
+                    return Err(MemberFault::Refused(Reason::NothingToTake));
+                }
                 if let Some(reason) = view_refusal(packet, view.version) {
                     return Err(MemberFault::Refused(reason));
                 }
+                recorder.make_room()?;
                 arrivals(alloc, packet, tables, view, id, from)?
             }
-            Some(Item::End(_)) => return Err(MemberFault::Refused(Reason::EndNext)),
+            Some(Item::End { .. }) => return Err(MemberFault::Refused(Reason::EndNext)),
             None => return Err(MemberFault::Refused(Reason::NothingToTake)),
         };
         match end.take() {
@@ -291,18 +307,18 @@ impl<I: LinkIn<Load>> InLink<I> {
         }
     }
 
-    /// Counts a packet, and grants credit where that is due.
-    fn count(&mut self)
+    /// Counts a packet, and grants credit under this stamp where that is due.
+    fn count(&mut self, stamp: Stamp)
         requires { MatchOption self.old.end ⊥ (λ i. I.waiting i ≡ None) }
         ensures counted { in_of self.new ≡ counted_in (in_of self.old) }
         ensures grants { (i : I) → self.old.end ≡ Some i → (j : I) × (self.new.end ≡ Some j)
-            × GrantsIf (grant_due self.old.counted) I.sends i j }
+            × GrantsIf (grant_due self.old.counted) stamp I.sends i j }
     {
         let Some(end) = &mut self.end else {
             unreachable!()
         };
         if let Some(amount) = self.counted.took() {
-            end.grant(amount);
+            end.grant(Grant { amount, stamp });
         }
     }
 
@@ -314,11 +330,18 @@ impl<I: LinkIn<Load>> InLink<I> {
         tables: &mut Tables,
         view: &View,
         id: MemberId,
+        recorder: &mut Recorder,
+        by: Name,
     ) -> Result<(Vec<Taken>, Vec<Change>, Packet), MemberFault>
         requires there { IsSome self.old.end }
+        requires lasts { is_used_up (recorder.old).recorded ≡ false }
         ensures counted { OnOk result (in_of self.new ≡ counted_in (in_of self.old)) }
-        ensures took { IfOk result (λ r. EndTook I.waiting I.takes I.looked I.sends (grant_due self.old.counted) r.2
-            self.old.end self.new.end) }
+        ensures took { IfOk result (λ r. EndTook I.waiting I.takes I.looked I.sends (grant_due self.old.counted)
+            (given (recorder.new).recorded) r.2 self.old.end self.new.end) }
+        ensures noted { IfOk result (λ r. (recorder.new).recorded
+            ≡ noted (Took by) (met r.2.stamp (recorder.old).recorded)) }
+        ensures unnoted { OnErr result ((recorder.new).recorded ≡ (recorder.old).recorded) }
+        ensures spare { (recorder.old).spare ≤ (recorder.new).spare }
         ensures version { IfOk result (λ r. r.2.view ≤ view.now.version) }
         ensures news { IfOk result (λ r. r.0.items
             ≡ news_below most_members (λ p. is_owned view.now id.0 self.old.from.0 (p + 1)) (all_kept tables.old)
@@ -327,25 +350,36 @@ impl<I: LinkIn<Load>> InLink<I> {
             ≡ changes_of (owned view.now id.0 self.old.from.0) tables.new r.2.lines) }
         ensures room { IfOk result (λ r. AreReady tables.new r.1.items) }
         ensures kept { KeepsRows tables.old tables.new }
-        ensures fault { IfErr result (λ fault. IsTakeFault I.known I.waiting view.now.version fault self.new.end) }
+        ensures fault { IfErr result (λ fault. IsTakeFault I.known I.waiting (is_late (recorder.old).recorded) view.now.version fault self.new.end) }
         ensures err { OnErr result (in_of self.new ≡ in_of self.old) }
         ensures looks { OnErr result (EndLooks I.looked self.old.end self.new.end) }
     {
-        let (news, changes, load) = self.take_load(alloc, tables, view, id)?;
-        self.count();
+        let (news, changes, load) = self.take_load(alloc, tables, view, id, recorder)?;
         let Load::Packet(packet) = load;
+        recorder.meet(packet.stamp);
+        recorder.note(Event::Take { by });
+        self.count(recorder.stamp());
         Ok((news, changes, packet))
     }
 
     /// The oldest packet, and the tables with which a member that waits begins by it, before its messages join.
-    fn open_load(&mut self, alloc: Global, have: u32) -> Result<(Tables, Load), MemberFault>
+    fn open_load(
+        &mut self,
+        alloc: Global,
+        have: u32,
+        recorder: &mut Recorder,
+    ) -> Result<(Tables, Load), MemberFault>
         requires there { IsSome self.old.end }
         ensures same { in_of self.new ≡ in_of self.old }
         ensures ok { IfOk result (λ r. EndTakes I.waiting I.takes I.looked r.1 self.old.end self.new.end) }
+        ensures early { IfOk result (λ r. is_late (recorder.old).recorded (packet_seen r.1).stamp ≡ false) }
+        ensures recorded { (recorder.new).recorded ≡ (recorder.old).recorded }
+        ensures spare { (recorder.old).spare ≤ (recorder.new).spare }
+        ensures roomy { OnOk result ((recorder.old).spare + 1 ≤ (recorder.new).spare) }
         ensures version { IfOk result (λ r. (packet_seen r.1).view ≤ have) }
         ensures opened { IfOk result (λ r. (p : ℕ) → kept_of r.0 p ≡ opened (line_of (packet_seen r.1).lines p)) }
         ensures room { IfOk result (λ r. AreOpened r.0 (packet_seen r.1).lines) }
-        ensures fault { IfErr result (λ fault. IsTakeFault I.known I.waiting have fault self.new.end) }
+        ensures fault { IfErr result (λ fault. IsTakeFault I.known I.waiting (is_late (recorder.old).recorded) have fault self.new.end) }
         ensures looks { OnErr result (EndLooks I.looked self.old.end self.new.end) }
     {
         let Some(end) = &mut self.end else {
@@ -353,12 +387,16 @@ impl<I: LinkIn<Load>> InLink<I> {
         };
         let tables = match end.peek() {
             Some(Item::Load(Load::Packet(packet))) => {
+                if recorder.is_late(packet.stamp) {
+                    return Err(MemberFault::Refused(Reason::NothingToTake));
+                }
                 if let Some(reason) = view_refusal(packet, have) {
                     return Err(MemberFault::Refused(reason));
                 }
+                recorder.make_room()?;
                 Tables::opening(alloc, packet)?
             }
-            Some(Item::End(_)) => return Err(MemberFault::Refused(Reason::EndNext)),
+            Some(Item::End { .. }) => return Err(MemberFault::Refused(Reason::EndNext)),
             None => return Err(MemberFault::Refused(Reason::NothingToTake)),
         };
         match end.take() {
@@ -373,30 +411,40 @@ impl<I: LinkIn<Load>> InLink<I> {
         &mut self,
         alloc: Global,
         have: u32,
+        recorder: &mut Recorder,
+        by: Name,
     ) -> Result<(Tables, Packet), MemberFault>
         requires there { IsSome self.old.end }
+        requires lasts { is_used_up (recorder.old).recorded ≡ false }
         ensures counted { OnOk result (in_of self.new ≡ counted_in (in_of self.old)) }
-        ensures took { IfOk result (λ r. EndTook I.waiting I.takes I.looked I.sends (grant_due self.old.counted) r.1
-            self.old.end self.new.end) }
+        ensures took { IfOk result (λ r. EndTook I.waiting I.takes I.looked I.sends (grant_due self.old.counted)
+            (given (recorder.new).recorded) r.1 self.old.end self.new.end) }
+        ensures noted { IfOk result (λ r. (recorder.new).recorded
+            ≡ noted (Took by) (met r.1.stamp (recorder.old).recorded)) }
+        ensures unnoted { OnErr result ((recorder.new).recorded ≡ (recorder.old).recorded) }
+        ensures spare { (recorder.old).spare ≤ (recorder.new).spare }
         ensures version { IfOk result (λ r. r.1.view ≤ have) }
         ensures opened { IfOk result (λ r. (p : ℕ) → kept_of r.0 p ≡ opened (line_of r.1.lines p)) }
         ensures room { IfOk result (λ r. AreOpened r.0 r.1.lines) }
-        ensures fault { IfErr result (λ fault. IsTakeFault I.known I.waiting have fault self.new.end) }
+        ensures fault { IfErr result (λ fault. IsTakeFault I.known I.waiting (is_late (recorder.old).recorded) have fault self.new.end) }
         ensures err { OnErr result (in_of self.new ≡ in_of self.old) }
         ensures looks { OnErr result (EndLooks I.looked self.old.end self.new.end) }
     {
-        let (tables, load) = self.open_load(alloc, have)?;
-        self.count();
+        let (tables, load) = self.open_load(alloc, have, recorder)?;
         let Load::Packet(packet) = load;
+        recorder.meet(packet.stamp);
+        recorder.note(Event::Take { by });
+        self.count(recorder.stamp());
         Ok((tables, packet))
     }
 
-    /// The end of the link.
-    pub(crate) fn take_end(&mut self) -> Result<EndReason, Reason>
+    /// The end of the link, and the stamp under which it was put.
+    pub(crate) fn take_end(&mut self, recorder: &Recorder) -> Result<(EndReason, Stamp), Reason>
         requires { IsSome self.old.end }
         ensures same { in_of self.new ≡ in_of self.old }
-        ensures ok { IfOk result (λ reason. EndEnds I.takes I.looked reason self.old.end self.new.end) }
-        ensures reason { IfErr result (λ r. IsEndRefusal I.known I.waiting r self.new.end) }
+        ensures ok { IfOk result (λ e. EndEnds I.takes I.looked e.0 e.1 self.old.end self.new.end) }
+        ensures early { IfOk result (λ e. is_late recorder.now.recorded e.1 ≡ false) }
+        ensures reason { IfErr result (λ r. IsEndRefusal I.known I.waiting (is_late recorder.now.recorded) r self.new.end) }
         ensures looks { OnErr result (EndLooks I.looked self.old.end self.new.end) }
     {
         let Some(end) = &mut self.end else {
@@ -404,11 +452,15 @@ impl<I: LinkIn<Load>> InLink<I> {
         };
         match end.peek() {
             Some(Item::Load(_)) => return Err(Reason::PacketNext),
-            Some(Item::End(_)) => {}
+            Some(Item::End { stamp, .. }) => {
+                if recorder.is_late(*stamp) {
+                    return Err(Reason::NothingToTake);
+                }
+            }
             None => return Err(Reason::NothingToTake),
         }
         match end.take() {
-            Some(Item::End(reason)) => Ok(reason),
+            Some(Item::End { reason, stamp }) => Ok((reason, stamp)),
             _ => unreachable!(),
         }
     }

@@ -13,6 +13,7 @@ ghost use Rattle.gm_member.specs.Within.{IsWithin, one_within};
 use crate::door::{first_for, is_for, prune};
 use crate::fault::MemberFault;
 use crate::links::{InLink, OutLink};
+use crate::saying::event_saying;
 use crate::spare::Spare;
 use crate::taken::Taken;
 use crate::telling::still_all_sent;
@@ -20,10 +21,11 @@ use crate::views::{left, right, version};
 use activity::{Load, Sent, Tables, says_all};
 use credit_flow::{CreditIn, CreditOut};
 use group_view::{LinkName, MOST_MEMBERS, Request, View};
-use ordered_link::{EndReason, LinkIn, LinkOut, LinkPair};
+use lamport_merge::Recorder;
+use ordered_link::{EndReason, Grant, LinkIn, LinkOut, LinkPair};
 use queue_core::Message;
-use ring_names::{CreditSpec, MemberId, Name, OutOfMemory, Reason};
-use ring_rules::Phase;
+use ring_names::{CreditSpec, MemberId, Name, OutOfMemory, Reason, Stamp};
+use ring_rules::{Event, Phase};
 use std::alloc::Global;
 
 /// The greatest number of a message.
@@ -52,6 +54,7 @@ pub struct Member<O: LinkOut<Load>, I> {
     pub(crate) spare: Option<Spare<O, I>>,
     pub(crate) old_outs: Vec<(LinkName, O)>,
     pub(crate) old_ins: Vec<(LinkName, I)>,
+    pub(crate) recorder: Recorder,
     ghost own: { (1 ≤ id.0) × (id.0 ≤ most_members) },
     ghost stands: { is_in id.0 (ids view) ≡ true },
     ghost up: { is_up_where asked phase ≡ true },
@@ -90,7 +93,11 @@ impl<O: LinkPair<Load, In = I>, I: LinkIn<Load> + Drop> Member<O, I> {
     ghost use Rattle.gm_member.specs.Stands.{WhereItStands, StepsTo, SaysIn, with_own_link};
     ghost use Rattle.gm_member.specs.Stands.{IsPutPacket, IsNextPacket, IsNextGrant, IsNextEnd, taken_in};
     ghost use Rattle.gm_member.specs.Stands.{StandsWhereItWaits};
-    ghost use Rattle.gm_member.specs.Shown.{held_of, ends_of, out_name_of, OutIsReady, InIsReady};
+    ghost use Rattle.lamport_merge.specs.Recorder.{begun, nothing_recorded, noted, given, is_used_up, is_late};
+    ghost use Rattle.gm_member.specs.Said.{said};
+    ghost use Rattle.gm_member.specs.Ends.{IsPutFault};
+    ghost use Rattle.gm_member.specs.Held.{put_held};
+    ghost use Rattle.gm_member.specs.Shown.{held_of, ends_of, recorded_of, spare_of, out_name_of, OutIsReady, InIsReady, PutsOn};
     ghost use Rattle.gm_member.specs.Shown.{LooksOut, TookOn, EndsOn, KeepsGrant, NoGrantBack};
     ghost use Rattle.gm_member.specs.Shown.{GrantIsBack, LooksBy, SpareIsReady, SendsOn, PicksOn};
     ghost use Rattle.gm_member.specs.Shown.{KeepsSpare, StaysReady, OutIsOpen, OutIsBack};
@@ -118,6 +125,7 @@ impl<O: LinkPair<Load, In = I>, I: LinkIn<Load> + Drop> Member<O, I> {
         ensures held { IfOk result (λ m. held_of m ≡ founded credit name id.0 view) }
         ensures ends { IfOk result (λ m. ends_of m
             ≡ record { out = Some out; returned = None; link = Some link; door = []; old_outs = []; old_ins = [] }) }
+        ensures recorded { IfOk result (λ m. recorded_of m ≡ nothing_recorded id.0) }
     {
         let old_outs = Vec::with_capacity(alloc, 1)?;
         let old_ins = Vec::with_capacity(alloc, 1)?;
@@ -153,6 +161,7 @@ impl<O: LinkPair<Load, In = I>, I: LinkIn<Load> + Drop> Member<O, I> {
             spare: None,
             old_outs,
             old_ins,
+            recorder: Recorder::new(alloc, id.0),
         })
     }
 
@@ -175,6 +184,8 @@ impl<O: LinkPair<Load, In = I>, I: LinkIn<Load> + Drop> Member<O, I> {
         ensures ends { IfOk result (λ m. ends_of m
             ≡ record { out = None; returned = None; link = Some link; door = []; old_outs = []; old_ins = [] }) }
         ensures back { IfErr result (λ e. (e.0 ≡ view) × (e.1 ≡ link)) }
+
+        ensures recorded { IfOk result (λ m. recorded_of m ≡ nothing_recorded id.0) }
 
         // It stands in every state of a run of the ring in which a member of its id and name waits with that view, and
         // no link stands at that one's door.
@@ -206,6 +217,7 @@ impl<O: LinkPair<Load, In = I>, I: LinkIn<Load> + Drop> Member<O, I> {
             spare: None,
             old_outs: Vec::new(alloc),
             old_ins,
+            recorder: Recorder::new(alloc, id.0),
         })
     }
 
@@ -285,6 +297,7 @@ impl<O: LinkPair<Load, In = I>, I: LinkIn<Load> + Drop> Member<O, I> {
     /// message: the caller gives an operation of the queue only where the member is master and its mirror allows it.
     /// As `gm:broadcast`.
     pub fn publish(&mut self, message: Message) -> Result<u64, (Message, MemberFault)>
+        requires { is_used_up (recorded_of self.old) ≡ false }
         ensures back { HandsBack (up_refused (held_of self.old) None) message result }
         ensures publishes { Publishes message self.old self.new result }
 
@@ -303,6 +316,7 @@ impl<O: LinkPair<Load, In = I>, I: LinkIn<Load> + Drop> Member<O, I> {
 
     /// The member's own part of `publish`.
     fn log(&mut self, message: Message) -> Result<u64, (Message, MemberFault)>
+        requires { is_used_up (recorded_of self.old) ≡ false }
         ensures back { HandsBack (up_refused (held_of self.old) None) message result }
         ensures publishes { Publishes message self.old self.new result }
     {
@@ -312,11 +326,18 @@ impl<O: LinkPair<Load, In = I>, I: LinkIn<Load> + Drop> Member<O, I> {
         if self.tables.numbers(self.id).got >= MOST_MESSAGES {
             return Err((message, MemberFault::OutOfMemory));
         }
+        let Ok(event) = event_saying(&self.name, &message) else {
+            return Err((message, MemberFault::OutOfMemory));
+        };
+        let Ok(()) = self.recorder.make_room() else {
+            return Err((message, MemberFault::OutOfMemory));
+        };
         if self.tables.make_room_for(self.id).is_err() {
             return Err((message, MemberFault::OutOfMemory));
         }
         self.tables.push(self.id, message);
         self.all_is_sent = false;
+        self.recorder.note_some(event);
         Ok(self.tables.numbers(self.id).got)
     }
 
@@ -372,7 +393,8 @@ impl<O: LinkPair<Load, In = I>, I: LinkIn<Load> + Drop> Member<O, I> {
     /// A packet with what is new of each origin goes on the link on which the member sends, as `gm` broadcasts its
     /// activity. Refused as `put_refusal` says, and then with `LinkFull` where the link handed the packet back.
     pub fn put(&mut self) -> Result<(), MemberFault>
-        requires { OutIsBack self.old }
+        requires out { OutIsBack self.old }
+        requires lasts { is_used_up (recorded_of self.old) ≡ false }
         ensures heeds { Heeds (put_refused (held_of self.old)) result }
         ensures puts { Puts O.free O.ended O.puts O.looked self.old self.new result }
 
@@ -389,19 +411,40 @@ impl<O: LinkPair<Load, In = I>, I: LinkIn<Load> + Drop> Member<O, I> {
 
     /// The member's own part of `put`.
     fn put_next(&mut self) -> Result<(), MemberFault>
-        requires { OutIsReady O.ended self.old }
+        requires ready { OutIsReady O.ended self.old }
+        requires lasts { is_used_up (recorded_of self.old) ≡ false }
         ensures heeds { Heeds (put_refused (held_of self.old)) result }
         ensures puts { Puts O.free O.ended O.puts O.looked self.old self.new result }
     {
         if let Some(reason) = self.put_refusal() {
             return Err(MemberFault::Refused(reason));
         }
+        self.recorder.make_room()?;
+        let stamp = self.recorder.next_stamp();
+        self.put_under(stamp)?;
+        self.recorder.note(Event::Put { by: self.name });
+        Ok(())
+    }
+
+    /// Its next packet goes on the link on which it sends, under this stamp.
+    fn put_under(&mut self, stamp: Stamp) -> Result<(), MemberFault>
+        requires ready { OutIsReady O.ended self.old }
+        requires enabled { put_refused (held_of self.old) ≡ None }
+        ensures ok { OnOk result (held_of self.new ≡ put_held (held_of self.old)) }
+        ensures packet { OnOk result (PutsOn O.puts stamp self.old self.new) }
+        ensures fault { IfErr result (λ fault. IsPutFault O.free fault (ends_of self.new).out) }
+        ensures err { OnErr result (held_of self.new ≡ held_of self.old) }
+        ensures looks { OnErr result (LooksOut O.looked self.old self.new) }
+        ensures ready { OutIsReady O.ended self.new }
+        ensures kept { OnErr result (StaysReady self.old self.new) }
+        ensures same { (self.new.name ≡ self.old.name) × (self.new.recorder ≡ self.old.recorder) }
+    {
         let version = version(&self.view);
         let Some(link) = &mut self.out else {
             unreachable!()
         };
         // Something is new, and stays so where the packet isn't put.
-        let put = link.put(self.alloc, version, &self.tables);
+        let put = link.put(self.alloc, stamp, version, &self.tables);
         self.all_is_sent = put.is_ok();
         put
     }
@@ -427,14 +470,15 @@ impl<O: LinkPair<Load, In = I>, I: LinkIn<Load> + Drop> Member<O, I> {
     /// where the next item is the end of the link, and `ViewTooOld` where it is a packet of a newer version than the
     /// member's. As `gm:handle_msg` of an activity.
     pub fn take(&mut self) -> Result<Vec<Taken>, MemberFault>
-        requires { InIsReady self.old }
+        requires ready { InIsReady self.old }
+        requires lasts { is_used_up (recorded_of self.old) ≡ false }
         ensures heeds { Heeds (take_refused (held_of self.old) None) result }
         ensures takes { Takes I.known I.waiting I.takes I.looked I.sends self.old self.new result }
 
         // Wherever the member stands in a state of a run and the packet is the oldest on its link, this is the ring's
         // event, and the messages are those of the logs.
         ensures steps { IfOk result (λ taken. (k : PacketSeen)
-            × TookOn I.waiting I.takes I.looked I.sends k self.old self.new
+            × TookOn I.waiting I.takes I.looked I.sends (given (recorded_of self.new)) k self.old self.new
             × WhereItStands (held_of self.old) (λ w x. IsNextPacket w x (packet_by_id k)
             → StepsTo w x (Take (held_of self.old).name) (held_of self.new)
             × (taken.items ≡ taken_in w (member_at w x).current x))) }
@@ -447,7 +491,8 @@ impl<O: LinkPair<Load, In = I>, I: LinkIn<Load> + Drop> Member<O, I> {
 
     /// The member's own part of `take`.
     fn take_next(&mut self) -> Result<Vec<Taken>, MemberFault>
-        requires { InIsReady self.old }
+        requires ready { InIsReady self.old }
+        requires lasts { is_used_up (recorded_of self.old) ≡ false }
         ensures heeds { Heeds (take_refused (held_of self.old) None) result }
         ensures takes { Takes I.known I.waiting I.takes I.looked I.sends self.old self.new result }
     {
@@ -455,7 +500,7 @@ impl<O: LinkPair<Load, In = I>, I: LinkIn<Load> + Drop> Member<O, I> {
             return Err(MemberFault::Refused(reason));
         }
         if self.waits() {
-            return self.begin();
+            return self.catch_up();
         }
         self.receive()
     }
@@ -472,29 +517,38 @@ impl<O: LinkPair<Load, In = I>, I: LinkIn<Load> + Drop> Member<O, I> {
         requires ready { InIsReady self.old }
         requires enabled { take_refused (held_of self.old) None ≡ None }
         requires state { is_waiting (held_of self.old).phase ≡ false }
+        requires lasts { is_used_up (recorded_of self.old) ≡ false }
         ensures { Takes I.known I.waiting I.takes I.looked I.sends self.old self.new result }
     {
         let Some(link) = &mut self.current else {
             unreachable!()
         };
-        let (news, changes, packet) = link.take(self.alloc, &mut self.tables, &self.view, self.id)?;
+        let (news, changes, packet) = link.take(
+            self.alloc,
+            &mut self.tables,
+            &self.view,
+            self.id,
+            &mut self.recorder,
+            self.name,
+        )?;
         self.tables.apply(packet, &changes);
         self.all_is_sent = still_all_sent(self.all_is_sent, &self.out, &self.tables, &changes);
         Ok(news)
     }
 
     /// Of one that waits: it begins with what its first packet says, receives nothing, and is up.
-    fn begin(&mut self) -> Result<Vec<Taken>, MemberFault>
+    fn catch_up(&mut self) -> Result<Vec<Taken>, MemberFault>
         requires ready { InIsReady self.old }
         requires enabled { take_refused (held_of self.old) None ≡ None }
         requires waits { is_waiting (held_of self.old).phase ≡ true }
+        requires lasts { is_used_up (recorded_of self.old) ≡ false }
         ensures { Takes I.known I.waiting I.takes I.looked I.sends self.old self.new result }
     {
         let Some(link) = &mut self.current else {
             unreachable!()
         };
         let have = version(&self.view);
-        let (mut tables, packet) = link.begin(self.alloc, have)?;
+        let (mut tables, packet) = link.begin(self.alloc, have, &mut self.recorder, self.name)?;
         tables.fill(packet);
         self.tables = tables;
         self.phase = Phase::Up;
@@ -507,7 +561,9 @@ impl<O: LinkPair<Load, In = I>, I: LinkIn<Load> + Drop> Member<O, I> {
     /// call, and `PacketNext` where the next item is a packet. It wants no memory. As `gm` where its left neighbour
     /// goes down.
     pub fn take_end(&mut self) -> Result<EndReason, MemberFault>
-        requires { InIsReady self.old }
+        requires ready { InIsReady self.old }
+        requires lasts { is_used_up (recorded_of self.old) ≡ false }
+        requires room { 0 < spare_of self.old }
         ensures heeds { Heeds (take_refused (held_of self.old) None) result }
         ensures takes { TakesEnd I.known I.waiting I.takes I.looked self.old self.new result }
 
@@ -523,7 +579,9 @@ impl<O: LinkPair<Load, In = I>, I: LinkIn<Load> + Drop> Member<O, I> {
 
     /// The member's own part of `take_end`.
     fn take_end_next(&mut self) -> Result<EndReason, MemberFault>
-        requires { InIsReady self.old }
+        requires ready { InIsReady self.old }
+        requires lasts { is_used_up (recorded_of self.old) ≡ false }
+        requires room { 0 < spare_of self.old }
         ensures heeds { Heeds (take_refused (held_of self.old) None) result }
         ensures takes { TakesEnd I.known I.waiting I.takes I.looked self.old self.new result }
     {
@@ -533,8 +591,10 @@ impl<O: LinkPair<Load, In = I>, I: LinkIn<Load> + Drop> Member<O, I> {
         let Some(link) = &mut self.current else {
             unreachable!()
         };
-        let reason = link.take_end()?;
+        let (reason, stamp) = link.take_end(&self.recorder)?;
         self.leave_current();
+        self.recorder.meet(stamp);
+        self.recorder.note(Event::TakeEnd { by: self.name });
         Ok(reason)
     }
 
@@ -564,7 +624,9 @@ impl<O: LinkPair<Load, In = I>, I: LinkIn<Load> + Drop> Member<O, I> {
     /// The member stops, and the link on which it sends ends. Refused with `Stopped`, and with `AwaitingAnswer` while a
     /// question of the member's own is open. It wants no memory. As a process of `gm` that goes down.
     pub fn stop(&mut self) -> Result<(), MemberFault>
-        requires { OutIsBack self.old }
+        requires out { OutIsBack self.old }
+        requires lasts { is_used_up (recorded_of self.old) ≡ false }
+        requires room { 0 < spare_of self.old }
         ensures heeds { Heeds (active_refused (held_of self.old) None) result }
         ensures acts { Stops O.puts self.old self.new result }
 
@@ -577,7 +639,9 @@ impl<O: LinkPair<Load, In = I>, I: LinkIn<Load> + Drop> Member<O, I> {
 
     /// The member's own part of `stop`.
     fn stop_next(&mut self) -> Result<(), MemberFault>
-        requires { OutIsReady O.ended self.old }
+        requires ready { OutIsReady O.ended self.old }
+        requires lasts { is_used_up (recorded_of self.old) ≡ false }
+        requires room { 0 < spare_of self.old }
         ensures heeds { Heeds (active_refused (held_of self.old) None) result }
         ensures acts { Stops O.puts self.old self.new result }
     {
@@ -585,21 +649,24 @@ impl<O: LinkPair<Load, In = I>, I: LinkIn<Load> + Drop> Member<O, I> {
             return Err(MemberFault::Refused(reason));
         }
         self.phase = Phase::Stopped;
-        self.end_out(EndReason::Stopped);
+        self.recorder.note(Event::Stop { by: self.name });
+        let stamp = self.recorder.stamp();
+        self.end_out(EndReason::Stopped, stamp);
         Ok(())
     }
 
-    /// The link on which a stopped member sends ends.
-    fn end_out(&mut self, reason: EndReason)
+    /// The link on which a stopped member sends ends, under this stamp.
+    fn end_out(&mut self, reason: EndReason, stamp: Stamp)
         requires stopped { self.old.phase ≡ Phase.Stopped }
         requires open { OutIsOpen O.ended self.old }
         ensures held { held_of self.new ≡ held_of self.old }
-        ensures ends { EndsOn O.puts reason self.old self.new }
+        ensures ends { EndsOn O.puts reason stamp self.old self.new }
+        ensures same { self.new.recorder ≡ self.old.recorder }
     {
         let Some(link) = &mut self.out else {
             return;
         };
-        link.finish(reason);
+        link.finish(reason, stamp);
     }
 
     /// Why the member may gain no credit: `Stopped`, `Waiting`, `AwaitingAnswer`; `NoOutLink` where it sends on no
@@ -613,6 +680,7 @@ impl<O: LinkPair<Load, In = I>, I: LinkIn<Load> + Drop> Member<O, I> {
         ensures some { IfSome result (λ r. (gain_refused (held_of self.old) ≡ Some r)
             ⊎ ((r ≡ Reason.NoGrant) × (gain_refused (held_of self.old) ≡ None) × NoGrantBack O.grants self.new)) }
         ensures ready { OutIsReady O.ended self.new }
+        ensures same { self.new.recorder ≡ self.old.recorder }
     {
         if let Some(reason) = self.up_refusal() {
             return Some(reason);
@@ -632,14 +700,15 @@ impl<O: LinkPair<Load, In = I>, I: LinkIn<Load> + Drop> Member<O, I> {
     /// The oldest grant that came back on the link on which a running member sends, for `gain`: none only where the
     /// end of the link knew none. It stays with the member until `gain`, and is answered again till then. It wants no
     /// memory.
-    pub fn granted(&mut self) -> Option<u32>
+    pub fn granted(&mut self) -> Option<Grant>
         requires runs { self.old.phase ≡ Phase.Up }
         requires out { OutIsBack self.old }
         ensures held { held_of self.new ≡ held_of self.old }
-        ensures some { IfSome result (λ amount. KeepsGrant O.gains amount self.old self.new) }
+        ensures some { IfSome result (λ grant. KeepsGrant O.gains grant self.old self.new) }
         ensures none { IfNone result (LooksOut O.looked self.old self.new × NoGrantBack O.grants self.new) }
         ensures kept { StaysReady self.old self.new }
         ensures ready { OutIsReady O.ended self.new }
+        ensures same { self.new.recorder ≡ self.old.recorder }
     {
         match &mut self.out {
             None => None,
@@ -650,25 +719,31 @@ impl<O: LinkPair<Load, In = I>, I: LinkIn<Load> + Drop> Member<O, I> {
     /// A grant becomes credit of the link on which the member sends: the caller gives what `granted` answered. Refused
     /// with `Stopped`, `Waiting`, `AwaitingAnswer`, and with `NoOutLink` where the member sends on no link. It wants no
     /// memory. As `credit_flow:handle_bump_msg`.
-    pub fn gain(&mut self, amount: u32) -> Result<(), MemberFault>
+    pub fn gain(&mut self, grant: Grant) -> Result<(), MemberFault>
+        requires lasts { is_used_up (recorded_of self.old) ≡ false }
+        requires early { is_late (recorded_of self.old) grant.stamp ≡ false }
+        requires room { 0 < spare_of self.old }
         ensures heeds { Heeds (gain_refused (held_of self.old)) result }
-        ensures acts { Gains amount self.old self.new result }
+        ensures acts { Gains grant self.old self.new result }
 
         // Wherever the member stands in a state of a run and the grant is the oldest on its way back, this is the
         // ring's event.
-        ensures steps { OnOk result (WhereItStands (held_of self.old) (λ w x. IsNextGrant w x amount
+        ensures steps { OnOk result (WhereItStands (held_of self.old) (λ w x. IsNextGrant w x grant.amount
             → StepsTo w x (Gain (held_of self.old).name) (held_of self.new))) }
         ensures not_enabled { RefusesWhere
             (λ w x. (o : ℕ) → (member_at w x).out ≡ Some o → the_gain_refusal w o ≡ None)
             (Gain (held_of self.old).name) self.old result }
     {
-        self.regain(amount)
+        self.regain(grant)
     }
 
     /// The member's own part of `gain`.
-    fn regain(&mut self, amount: u32) -> Result<(), MemberFault>
+    fn regain(&mut self, grant: Grant) -> Result<(), MemberFault>
+        requires lasts { is_used_up (recorded_of self.old) ≡ false }
+        requires early { is_late (recorded_of self.old) grant.stamp ≡ false }
+        requires room { 0 < spare_of self.old }
         ensures heeds { Heeds (gain_refused (held_of self.old)) result }
-        ensures acts { Gains amount self.old self.new result }
+        ensures acts { Gains grant self.old self.new result }
     {
         if let Some(reason) = self.up_refusal() {
             return Err(MemberFault::Refused(reason));
@@ -676,8 +751,10 @@ impl<O: LinkPair<Load, In = I>, I: LinkIn<Load> + Drop> Member<O, I> {
         match &mut self.out {
             None => Err(MemberFault::Refused(Reason::NoOutLink)),
             Some(link) => {
-                link.credit.gain(amount);
+                link.credit.gain(grant.amount);
                 link.returned = None;
+                self.recorder.meet(grant.stamp);
+                self.recorder.note(Event::Gain { by: self.name });
                 Ok(())
             }
         }
@@ -739,7 +816,8 @@ impl<O: LinkPair<Load, In = I>, I: LinkIn<Load> + Drop> Member<O, I> {
             return;
         };
         let name = link.name(self.id);
-        let end = link.into_ended(EndReason::Moved);
+        let stamp = self.recorder.stamp();
+        let end = link.into_ended(EndReason::Moved, stamp);
         push_old(&mut self.old_outs, name, end);
     }
 
@@ -784,7 +862,8 @@ impl<O: LinkPair<Load, In = I>, I: LinkIn<Load> + Drop> Member<O, I> {
             unreachable!()
         };
         self.move_on();
-        let (link, requests) = spare.open(self.id, to, version(&self.view), self.credit);
+        let stamp = self.recorder.stamp();
+        let (link, requests) = spare.open(self.id, to, version(&self.view), self.credit, stamp);
         self.all_is_sent = says_all(&link.sent, &self.tables, MOST_MEMBERS as u32);
         self.out = Some(link);
         requests
@@ -910,6 +989,8 @@ impl<O: LinkPair<Load, In = I>, I: LinkIn<Load> + Drop> Member<O, I> {
     /// `pick_refusal` says. It wants no memory. As `gm` that gets its first message, a `catchup`, from a new left
     /// neighbour.
     pub fn pick(&mut self) -> Result<(), MemberFault>
+        requires lasts { is_used_up (recorded_of self.old) ≡ false }
+        requires room { 0 < spare_of self.old }
         ensures heeds { Heeds (pick_refused (held_of self.old)) result }
         ensures acts { PicksUp self.old self.new result }
 
@@ -922,6 +1003,8 @@ impl<O: LinkPair<Load, In = I>, I: LinkIn<Load> + Drop> Member<O, I> {
 
     /// The member's own part of `pick`.
     fn pick_next(&mut self) -> Result<(), MemberFault>
+        requires lasts { is_used_up (recorded_of self.old) ≡ false }
+        requires room { 0 < spare_of self.old }
         ensures heeds { Heeds (pick_refused (held_of self.old)) result }
         ensures acts { PicksUp self.old self.new result }
     {
@@ -932,6 +1015,7 @@ impl<O: LinkPair<Load, In = I>, I: LinkIn<Load> + Drop> Member<O, I> {
             None => unreachable!(),
             Some(place) => self.pick_at(place),
         }
+        self.recorder.note(Event::Pick { by: self.name });
         Ok(())
     }
 
@@ -941,6 +1025,7 @@ impl<O: LinkPair<Load, In = I>, I: LinkIn<Load> + Drop> Member<O, I> {
         requires none { self.old.current ≡ None }
         ensures held { held_of self.new ≡ picked_at (held_of self.old) place }
         ensures picks { PicksOn place self.old self.new }
+        ensures same { (self.new.name ≡ self.old.name) × (self.new.recorder ≡ self.old.recorder) }
     {
         self.current = Some(self.door.remove(place));
     }

@@ -12,8 +12,15 @@ use activity::{Load, Packet, Sent, Tables, diff};
 use credit_flow::CreditOut;
 use group_view::{LinkKind, Request};
 use ordered_link::{LinkOut, LinkPair};
-use ring_names::{CreditSpec, MemberId, OutOfMemory};
+use ring_names::{CreditSpec, MemberId, OutOfMemory, Stamp};
 use std::alloc::Global;
+
+/// What a packet carries before it is put.
+const NOT_YET: Stamp = Stamp {
+    round: 0,
+    time: 0,
+    party: 0,
+};
 
 /// The ends of a link on which nothing was put, the packet that will be its first, for which it has room, the numbers
 /// that it says, and room for the request by which the receiving end goes to the registrar.
@@ -58,13 +65,14 @@ impl<O: LinkPair<Load, In = I>, I: Drop> Spare<O, I> {
         })
     }
 
-    /// The link opens: its first packet is put, and a request carries the receiving end to the registrar.
+    /// The link opens: its first packet is put under this stamp, and a request carries the receiving end to the registrar.
     pub(crate) fn open(
         self,
         by: MemberId,
         to: MemberId,
         version: u32,
         credit: CreditSpec,
+        stamp: Stamp,
     ) -> (OutLink<O>, Vec<Request<I>>)
         ensures opens { (known : List Kept) → IsSpareFor O.are_fresh O.free O.ended credit.initial known self
             → OpensOn O.puts credit known by to version self result.0 result.1.items }
@@ -79,6 +87,7 @@ impl<O: LinkPair<Load, In = I>, I: Drop> Spare<O, I> {
             mut requests,
         } = self;
         match out.put(Load::Packet(Packet {
+            stamp,
             view: version,
             ..packet
         })) {
@@ -119,7 +128,7 @@ fn first_packet(alloc: Global, tables: &Tables) -> Result<(Packet, Sent), OutOfM
     ensures there { IfOk result (λ r. IsNotAbove r.1 tables.now) }
 {
     let mut sent = Sent::new(alloc);
-    let packet = diff(alloc, &sent, tables, 0, true)?;
+    let packet = diff(alloc, &sent, tables, NOT_YET, 0, true)?;
     sent.make_room(&packet)?;
     sent.note(&packet);
     Ok((packet, sent))

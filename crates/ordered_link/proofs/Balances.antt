@@ -1,7 +1,8 @@
 -- What a round leaves of a ring pair.
-use Rattle.std.proofs.Common.{◌≡◌, ℕ, List, ◌++◌, sym, ap, ◌∙◌, append_assoc}
+use Rattle.std.proofs.Common.{◌≡◌, List, ◌++◌, sym, ap, ◌∙◌, append_assoc}
 use Rattle.std.proofs.lemmas.List.{append_cancel_left}
 use Rattle.rtrb.specs.Ring.{sent, received, known_items}
+use Rattle.ordered_link.specs.declared.grant.Grant.{Grant}
 use Rattle.ordered_link.specs.declared.item.Item.{Item}
 use Rattle.ordered_link.specs.declared.ring.RingOut.{RingOut}
 use Rattle.ordered_link.specs.declared.ring.RingIn.{RingIn}
@@ -15,7 +16,7 @@ balance past known all puts takes past' known' all' before after took put =
     (sym (append_assoc past known puts) ∙ ap (λ xs. xs ++ puts) before ∙ sym put ∙ sym after ∙ ap (λ xs. xs ++ known') took ∙ append_assoc past takes known')
 
 -- of both rings
-pub balances : {T : Type 0} (o o' : RingOut T) (i i' : RingIn T) (puts takes : List (Item T)) (gives gains : List ℕ) → RingsHaveMet o i → Grew o i o' i' puts takes gives gains → RingsHaveMet o' i' → Balances o i o' i' puts takes gives gains
+pub balances : {T : Type 0} (o o' : RingOut T) (i i' : RingIn T) (puts takes : List (Item T)) (gives gains : List Grant) → RingsHaveMet o i → Grew o i o' i' puts takes gives gains → RingsHaveMet o' i' → Balances o i o' i' puts takes gives gains
 balances o o' i i' puts takes gives gains before grew after = (
   balance (received i.items) (known_items i.items) (sent o.items) puts takes (received i'.items) (known_items i'.items) (sent o'.items) before.items after.items grew.took grew.put,
   balance (received o.back) (known_items o.back) (sent i.back) gives gains (received o'.back) (known_items o'.back) (sent i'.back) before.grants after.grants grew.gained grew.gave,

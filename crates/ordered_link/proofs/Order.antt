@@ -3,6 +3,7 @@ use Rattle.std.proofs.Common.{◌≡◌, ℕ, Bool, true, false, List, [], ◌�
 use Rattle.std.specs.List.{flat_map}
 use Rattle.std.proofs.lemmas.List.{append-nil, map-append}
 use Rattle.std.proofs.lemmas.Grind.{common_steps}
+use Rattle.ordered_link.specs.declared.grant.Grant.{Grant}
 use Rattle.ordered_link.specs.declared.item.Item.{Item}
 use Rattle.ordered_link.specs.declared.item.Item.TheVariants.{Load, End}
 use Rattle.ordered_link.specs.declared.plain.PlainOut.{PlainOut}
@@ -16,11 +17,11 @@ joined : {A : Type 0} (t ts a b c p ps : List A) → t ++ b ≡ a ++ p → ts ++
 joined t ts a b c p ps h k = append_assoc t ts c ∙ ap (λ xs. t ++ xs) k ∙ sym (append_assoc t b ps) ∙ ap (λ xs. xs ++ ps) h ∙ append_assoc a p ps
 
 -- a grant that is sent stays one of those on the way back
-pub sent_list : (back given given' : List ℕ) (late late' : Option ℕ) → Sends given late given' late' → back ++ (given' ++ list_of late') ≡ back ++ (given ++ list_of late)
+pub sent_list : (back given given' : List Grant) (late late' : Option Grant) → Sends given late given' late' → back ++ (given' ++ list_of late') ≡ back ++ (given ++ list_of late)
 sent_list back given given' late late' (inl h) = cc
 sent_list back given given' late late' (inr (none, grant, is, more)) = rw none (rw is (rw more (ap (λ xs. back ++ xs) (append-nil _))))
 
-sent_grants : (back back' given given' : List ℕ) (late late' : Option ℕ) → back' ≡ back → Sends given late given' late' → back' ++ (given' ++ list_of late') ≡ back ++ (given ++ list_of late) ++ []
+sent_grants : (back back' given given' : List Grant) (late late' : Option Grant) → back' ≡ back → Sends given late given' late' → back' ++ (given' ++ list_of late') ≡ back ++ (given ++ list_of late) ++ []
 sent_grants back back' given given' late late' same h = rw same (sent_list back given given' late late' h ∙ sym (append-nil _))
 
 module _ {T : Type 0} where
@@ -74,9 +75,9 @@ module _ {T : Type 0} where
 
   put_form : (x : Item T) (xs : List (Item T)) (e e' : Bool) → e ≡ false → e' ≡ is_end x → IsInForm e xs → IsInForm e' (xs ++ x ∷ [])
   put_form (Load x) xs e e' was is h = record { loads = λ _. more_loads xs x (h.loads was); ended_form = λ ended. cc }
-  put_form (End r) xs e e' was is h = record {
+  put_form (End r s) xs e e' was is h = record {
     loads = λ open_out. cc;
-    ended_form = λ _. let f = h.loads was in (f.0, r, ap (λ ys. ys ++ End r ∷ []) f.1);
+    ended_form = λ _. let f = h.loads was in (f.0, r, s, ap (λ ys. ys ++ End r s ∷ []) f.1);
   }
 
   kept_form : (xs : List (Item T)) (e e' : Bool) → e' ≡ e → IsInForm e xs → IsInForm e' (xs ++ [])

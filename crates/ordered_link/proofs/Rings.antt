@@ -7,6 +7,7 @@ use Rattle.rtrb.specs.Ring.{sent, received, known_items, producer_capacity, Same
 use Rattle.rtrb.specs.declared.end.End.{End as RingEnd}
 use Rattle.rtrb.specs.declared.producer.Producer.{Producer}
 use Rattle.rtrb.specs.declared.consumer.Consumer.{Consumer}
+use Rattle.ordered_link.specs.declared.grant.Grant.{Grant}
 use Rattle.ordered_link.specs.declared.ring.RingOut.{RingOut}
 use Rattle.ordered_link.specs.declared.ring.RingIn.{RingIn}
 use Rattle.ordered_link.specs.Form.{is_in_form}
@@ -138,7 +139,7 @@ module _ {T : Type 0} where
   step_gained met o o' i i' h = h.out.3 ∙ sym (append-nil _)
 
   -- the grants that were given: those that were sent, and the one that waits
-  abbrev given : RingIn T → List ℕ
+  abbrev given : RingIn T → List Grant
   given i = sent i.back ++ list_of i.late
 
   -- the grant that it gave

@@ -8,5 +8,5 @@ module _ {T : Type 0} where
   abbrev pub is_in_form : Bool → List (Item T) → Bool
   is_in_form ended [] = not ended
   is_in_form ended (Load x ∷ xs) = is_in_form ended xs
-  is_in_form ended (End r ∷ []) = ended
-  is_in_form ended (End r ∷ x ∷ xs) = false
+  is_in_form ended (End r s ∷ []) = ended
+  is_in_form ended (End r s ∷ x ∷ xs) = false

@@ -2,6 +2,7 @@
 use Rattle.std.specs.Prelude.{◌≡◌, ℕ, ◌+◌, ◌<◌, false, [], ◌∷◌, ◌++◌, length, Some, None}
 use Rattle.rtrb.specs.Ring.{sent, received, known_items, known_free, producer_capacity}
 use Rattle.rtrb.specs.Ring.{SameProducer, SameConsumer, IsPair, ConsumerLooked, ProducerLooked}
+use Rattle.ordered_link.specs.declared.grant.Grant.{Grant}
 use Rattle.ordered_link.specs.declared.item.Item.{Item}
 use Rattle.ordered_link.specs.declared.ring.RingOut.{RingOut}
 use Rattle.ordered_link.specs.declared.ring.RingIn.{RingIn}
@@ -25,7 +26,7 @@ module _ {T : Type 0} where
       × (b.back ≡ a.back) × (b.initial ≡ a.initial) × (b.ended ≡ is_end x)
 
   -- the oldest grant that was known was taken, and all else is as it was
-  abbrev pub RingGains : RingOut T → ℕ → RingOut T → Type 0
+  abbrev pub RingGains : RingOut T → Grant → RingOut T → Type 0
   RingGains a grant b =
       (b.items ≡ a.items) × SameConsumer a.back b.back
       × (received b.back ≡ received a.back ++ grant ∷ []) × (known_items a.back ≡ grant ∷ known_items b.back)
@@ -61,7 +62,7 @@ module _ {T : Type 0} where
       × (b.late ≡ a.late) × (b.initial ≡ a.initial)
 
   -- the grant has gone back, or waits in the end
-  abbrev pub RingSends : RingIn T → ℕ → RingIn T → Type 0
+  abbrev pub RingSends : RingIn T → Grant → RingIn T → Type 0
   RingSends a grant b =
       (b.items ≡ a.items) × SameProducer a.back b.back
       × Sends (sent a.back) (Some grant) (sent b.back) b.late

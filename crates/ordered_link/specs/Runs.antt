@@ -1,6 +1,8 @@
 -- What is done with one plain pair, step by step.
-use Rattle.std.specs.Prelude.{◌≡◌, ℕ, ◌++◌, List, [], ◌∷◌, Option, Some, None, true, false, map}
+use Rattle.std.specs.Prelude.{◌≡◌, ◌++◌, List, [], ◌∷◌, Option, Some, None, true, false, map}
 use Rattle.std.specs.List.{flat_map}
+use Rattle.ring_names.specs.declared.numbers.Stamp.{Stamp}
+use Rattle.ordered_link.specs.declared.grant.Grant.{Grant}
 use Rattle.ordered_link.specs.declared.item.EndReason.{EndReason}
 use Rattle.ordered_link.specs.declared.item.Item.{Item}
 use Rattle.ordered_link.specs.declared.item.Item.TheVariants.{Load, End}
@@ -12,13 +14,13 @@ use Rattle.ordered_link.specs.Steps.{PlainPuts, PlainGains, PlainTakes, PlainLoo
 pub data Step (T : Type 0) : Type 0 where
   put : Item T → Step T
   taken : Item T → Step T
-  gained : ℕ → Step T
-  granted : ℕ → Step T
+  gained : Grant → Step T
+  granted : Grant → Step T
   looked : Step T
   met : Step T
 
 -- the grant that waits, if one does
-abbrev pub list_of : Option ℕ → List ℕ
+abbrev pub list_of : Option Grant → List Grant
 list_of None = []
 list_of (Some grant) = grant ∷ []
 
@@ -52,12 +54,12 @@ module _ {T : Type 0} where
   taken_by _ = []
 
   -- the grant that it took
-  abbrev pub gained_by : Step T → List ℕ
+  abbrev pub gained_by : Step T → List Grant
   gained_by (gained grant) = grant ∷ []
   gained_by _ = []
 
   -- the grant that it gave
-  abbrev pub granted_by : Step T → List ℕ
+  abbrev pub granted_by : Step T → List Grant
   granted_by (granted grant) = grant ∷ []
   granted_by _ = []
 
@@ -70,11 +72,11 @@ module _ {T : Type 0} where
   takes_of steps = flat_map taken_by steps
 
   -- the grants that came back and were taken
-  abbrev pub gains_of : List (Step T) → List ℕ
+  abbrev pub gains_of : List (Step T) → List Grant
   gains_of steps = flat_map gained_by steps
 
   -- the grants that were given
-  abbrev pub grants_of : List (Step T) → List ℕ
+  abbrev pub grants_of : List (Step T) → List Grant
   grants_of steps = flat_map granted_by steps
 
   -- the items on the link: those of the in end, then those that wait in the out end
@@ -82,7 +84,7 @@ module _ {T : Type 0} where
   items_held o i = i.items.items ++ o.waiting.items
 
   -- the grants on the way back: those of the out end, then those of the in end, and the one that waits
-  abbrev pub grants_held : PlainOut T → PlainIn T → List ℕ
+  abbrev pub grants_held : PlainOut T → PlainIn T → List Grant
   grants_held o i = o.back.items ++ (i.given.items ++ list_of i.late)
 
   -- loads alone
@@ -91,7 +93,7 @@ module _ {T : Type 0} where
 
   -- loads, and then one End
   abbrev pub AreLoadsThenEnd : List (Item T) → Type 0
-  AreLoadsThenEnd xs = (loads : List T) × (reason : EndReason) × (xs ≡ map Load loads ++ End reason ∷ [])
+  AreLoadsThenEnd xs = (loads : List T) × (reason : EndReason) × (stamp : Stamp) × (xs ≡ map Load loads ++ End reason stamp ∷ [])
 
   -- the law of a pair that was fresh: what was taken, followed by what the link holds, is what was put, in
   -- order; so are the grants; and End was put last and once if the link has ended, else not at all

@@ -1,5 +1,6 @@
 -- The steps of the ends of a plain pair.
 use Rattle.std.specs.Prelude.{◌≡◌, ℕ, ◌+◌, ◌<◌, ◌≤◌, ◌++◌, [], ◌∷◌, length, Some, None, Bool, true, false}
+use Rattle.ordered_link.specs.declared.grant.Grant.{Grant}
 use Rattle.ordered_link.specs.declared.item.Item.{Item}
 use Rattle.ordered_link.specs.declared.item.Item.TheVariants.{Load, End}
 use Rattle.ordered_link.specs.declared.plain.PlainOut.{PlainOut}
@@ -10,7 +11,7 @@ module _ {T : Type 0} where
   -- whether the item is End
   abbrev pub is_end : Item T → Bool
   is_end (Load x) = false
-  is_end (End r) = true
+  is_end (End r s) = true
 
   -- the item waits behind the others, a slot fewer is free, and End is the last item
   abbrev pub PlainPuts : PlainOut T → Item T → PlainOut T → Type 0
@@ -19,7 +20,7 @@ module _ {T : Type 0} where
       × (b.back ≡ a.back) × (b.initial ≡ a.initial) × (b.ended ≡ is_end x)
 
   -- the oldest grant is gone, and all else as it was
-  abbrev pub PlainGains : PlainOut T → ℕ → PlainOut T → Type 0
+  abbrev pub PlainGains : PlainOut T → Grant → PlainOut T → Type 0
   PlainGains a grant b =
       (a.back.items ≡ grant ∷ b.back.items) × (b.waiting ≡ a.waiting) × (b.free ≡ a.free)
       × (b.ended ≡ a.ended) × (b.initial ≡ a.initial)
@@ -40,7 +41,7 @@ module _ {T : Type 0} where
   PlainLooked a b = (b.items ≡ a.items) × PlainSent a b
 
   -- the grant has gone back, or waits in the end
-  abbrev pub PlainSends : PlainIn T → ℕ → PlainIn T → Type 0
+  abbrev pub PlainSends : PlainIn T → Grant → PlainIn T → Type 0
   PlainSends a grant b =
       (b.items ≡ a.items) × Sends a.given.items (Some grant) b.given.items b.late
       × (length b.given.items + b.free ≡ length a.given.items + a.free)

@@ -9,11 +9,14 @@ ghost use Rattle.std.specs.Borrow.{sem};
 ghost use denote.Follow.{follows_so};
 ghost use mathlib.Core.Option.{none};
 ghost use mathlib.Core.List.{IsPrefix};
+ghost use Rattle.ordered_link.specs.declared.grant.Grant.{Grant};
 ghost use Rattle.ordered_link.specs.declared.item.Item.{Item};
 ghost use Rattle.ordered_link.specs.declared.item.EndReason.{EndReason};
+ghost use Rattle.ring_names.specs.declared.numbers.Stamp.{Stamp};
 
+use crate::grant::Grant;
 use crate::item::{EndReason, Item};
-use ring_names::{CreditSpec, OutOfMemory};
+use ring_names::{CreditSpec, OutOfMemory, Stamp};
 use std::alloc::Global;
 
 /// The end that puts items on a link. Its calls take no memory.
@@ -25,13 +28,13 @@ pub trait LinkOut<T> {
     ghost ended: { Self → Bool };
 
     /// The grants that the end knows to have come back, oldest first.
-    ghost grants: { Self → List ℕ };
+    ghost grants: { Self → List Grant };
 
     /// `puts a x b`: the item x was put, and a became b.
     ghost puts: { Self → Item T → Self → Type 0 };
 
     /// `gains a g b`: the grant g was taken, and a became b.
-    ghost gains: { Self → ℕ → Self → Type 0 };
+    ghost gains: { Self → Grant → Self → Type 0 };
 
     /// `looked a b`: no item was put and no grant taken; b may know more.
     ghost looked: { Self → Self → Type 0 };
@@ -46,15 +49,15 @@ pub trait LinkOut<T> {
         ensures succeeds { 1 < free self.old → IsOk result }
         ensures open { ended self.new ≡ false };
 
-    /// Puts `End` after all that were put. There is always room for it.
-    fn end(&mut self, reason: EndReason)
+    /// Puts `End` after all that were put, with the stamp of this step. There is always room for it.
+    fn end(&mut self, reason: EndReason, stamp: Stamp)
         requires { ended self.old ≡ false }
-        ensures put { puts self.old (Item.End reason) self.new }
+        ensures put { puts self.old (Item.End reason stamp) self.new }
         ensures ended { ended self.new ≡ true };
 
     /// The oldest grant that came back and was not taken yet: none only where the end knew none at this
     /// step.
-    fn granted(&mut self) -> Option<u32>
+    fn granted(&mut self) -> Option<Grant>
         ensures some { IfSome result (λ g. gains self.old g self.new) }
         ensures none { IfNone result (looked self.old self.new × (grants self.new ≡ [])) }
         ensures ended { ended self.new ≡ ended self.old }
@@ -75,7 +78,7 @@ pub trait LinkIn<T> {
     ghost known: { Self → List (Item T) };
 
     /// The grant that waits in the end, if one does.
-    ghost waiting: { Self → Option ℕ };
+    ghost waiting: { Self → Option Grant };
 
     /// How many slots of the way back the end knows to be free.
     ghost room: { Self → ℕ };
@@ -84,7 +87,7 @@ pub trait LinkIn<T> {
     ghost takes: { Self → Item T → Self → Type 0 };
 
     /// `sends a g b`: the caller granted g, which has gone or waits, and a became b.
-    ghost sends: { Self → ℕ → Self → Type 0 };
+    ghost sends: { Self → Grant → Self → Type 0 };
 
     /// `looked a b`: no item was taken and nothing granted. A grant that waited may have gone, and b may
     /// know more.
@@ -116,9 +119,9 @@ pub trait LinkIn<T> {
 
     /// Sends a grant back. Where the way back has no room it waits in the end, and `take` and `peek`
     /// send it before they look.
-    fn grant(&mut self, amount: u32)
+    fn grant(&mut self, grant: Grant)
         requires { waiting self.old ≡ None }
-        ensures granted { sends self.old amount self.new }
+        ensures granted { sends self.old grant self.new }
         ensures sent { 0 < room self.old → waiting self.new ≡ None };
 
     /// Whether a grant waits in the end.

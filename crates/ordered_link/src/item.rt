@@ -1,5 +1,7 @@
 //! What stands on a link.
 
+use ring_names::Stamp;
+
 /// Why a link ended.
 #[derive(Clone, Copy, PartialEq, Eq, Debug)]
 pub enum EndReason {
@@ -15,5 +17,10 @@ pub enum Item<T> {
     /// What was put.
     Load(T),
     /// Nothing more comes.
-    End(EndReason),
+    End {
+        /// Why the link ended.
+        reason: EndReason,
+        /// When it was put.
+        stamp: Stamp,
+    },
 }

@@ -1,6 +1,7 @@
 //! The laws of pairs, over all that is done with one.
 ghost use Rattle.std.specs.Prelude.{◌≡◌, ℕ, ◌+◌, ◌≤◌, ◌↔◌, List, length, false, true};
 ghost use Rattle.rtrb.specs.Ring.{sent, known_free, known_items};
+ghost use Rattle.ordered_link.specs.declared.grant.Grant.{Grant};
 ghost use Rattle.ordered_link.specs.declared.item.Item.{Item};
 ghost use Rattle.ordered_link.specs.declared.plain.PlainIn.{PlainIn};
 ghost use Rattle.ordered_link.specs.declared.plain.PlainOut.{PlainOut};
@@ -53,7 +54,7 @@ pub fn ends_that_met_are_exact<T>()
 /// in it is what was taken and what the link holds, in order: the k-th item taken is the k-th one put. So it
 /// is of the grants.
 pub fn a_round_balances_each_link<T>()
-    ensures { (out out' : RingOut T) (link link' : RingIn T) (puts takes : List (Item T)) (gives gains : List ℕ)
+    ensures { (out out' : RingOut T) (link link' : RingIn T) (puts takes : List (Item T)) (gives gains : List Grant)
         → RingsHaveMet out link → Grew out link out' link' puts takes gives gains → RingsHaveMet out' link'
         → Balances out link out' link' puts takes gives gains }
 {}

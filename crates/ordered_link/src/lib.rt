@@ -4,6 +4,7 @@
 #![tactic(auto)]
 
 mod ends;
+mod grant;
 mod item;
 mod laws;
 mod meeting;
@@ -15,6 +16,7 @@ mod ring_meeting;
 mod tests;
 
 pub use ends::{LinkIn, LinkOut, LinkPair};
+pub use grant::Grant;
 pub use item::{EndReason, Item};
 pub use laws::{
     a_round_balances_each_link, ends_may_always_meet, ends_that_met_are_exact,

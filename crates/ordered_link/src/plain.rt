@@ -4,15 +4,16 @@ ghost use Rattle.std.specs.Prelude.{◌≡◌, ◌+◌, ◌<◌, ◌≤◌, fals
 ghost use Rattle.std.specs.Vec.{vec_len, vec_capacity};
 
 use crate::ends::{LinkIn, LinkOut, LinkPair};
+use crate::grant::Grant;
 use crate::item::{EndReason, Item};
-use ring_names::{CreditSpec, OutOfMemory};
+use ring_names::{CreditSpec, OutOfMemory, Stamp};
 use std::alloc::Global;
 
 /// The end of a plain pair that puts.
 #[derive(Drop, Debug)]
 pub struct PlainOut<T> {
     pub(crate) waiting: Vec<Item<T>>,
-    pub(crate) back: Vec<u32>,
+    pub(crate) back: Vec<Grant>,
     pub(crate) initial: usize,
     pub(crate) free: usize,
     pub(crate) ended: bool,
@@ -26,10 +27,10 @@ pub struct PlainOut<T> {
 #[derive(Drop, Debug)]
 pub struct PlainIn<T> {
     pub(crate) items: Vec<Item<T>>,
-    pub(crate) given: Vec<u32>,
+    pub(crate) given: Vec<Grant>,
     pub(crate) initial: usize,
     pub(crate) free: usize,
-    pub(crate) late: Option<u32>,
+    pub(crate) late: Option<Grant>,
     ghost small: { initial ≤ 64 },
     ghost fits: { (initial < vec_capacity items) × (initial ≤ vec_capacity given) },
     ghost bound: { vec_len given + free ≤ initial },
@@ -59,13 +60,13 @@ impl<T> LinkOut<T> for PlainOut<T> {
         Ok(())
     }
 
-    fn end(&mut self, reason: EndReason) {
+    fn end(&mut self, reason: EndReason, stamp: Stamp) {
         self.free -= 1;
-        self.waiting.push_reserved(Item::End(reason));
+        self.waiting.push_reserved(Item::End { reason, stamp });
         self.ended = true;
     }
 
-    fn granted(&mut self) -> Option<u32> {
+    fn granted(&mut self) -> Option<Grant> {
         if self.back.is_empty() {
             return None;
         }
@@ -108,10 +109,10 @@ impl<T> PlainIn<T> {
         ensures given { PlainSent self.old self.new }
         ensures sent { 0 < self.old.free → self.new.late ≡ None }
     {
-        if let Some(amount) = self.late {
+        if let Some(grant) = self.late {
             if self.free > 0 {
                 self.free -= 1;
-                self.given.push_reserved(amount);
+                self.given.push_reserved(grant);
                 self.late = None;
             }
         }
@@ -149,8 +150,8 @@ impl<T> LinkIn<T> for PlainIn<T> {
         self.items.first()
     }
 
-    fn grant(&mut self, amount: u32) {
-        self.late = Some(amount);
+    fn grant(&mut self, grant: Grant) {
+        self.late = Some(grant);
         self.send_late();
     }
 

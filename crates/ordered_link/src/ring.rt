@@ -6,15 +6,16 @@ ghost use Rattle.rtrb.specs.Ring.{sent, known_free};
 ghost use Rattle.ordered_link.specs.Form.{is_in_form};
 
 use crate::ends::{LinkIn, LinkOut, LinkPair};
+use crate::grant::Grant;
 use crate::item::{EndReason, Item};
-use ring_names::{CreditSpec, OutOfMemory};
+use ring_names::{CreditSpec, OutOfMemory, Stamp};
 use rtrb::{Consumer, Producer, RingBuffer};
 use std::alloc::Global;
 
 /// The end of a ring pair that puts.
 pub struct RingOut<T> {
     pub(crate) items: Producer<Item<T>>,
-    pub(crate) back: Consumer<u32>,
+    pub(crate) back: Consumer<Grant>,
     pub(crate) initial: usize,
     pub(crate) ended: bool,
     ghost kept: { ended ≡ false → 0 < known_free items },
@@ -36,9 +37,9 @@ impl<T: Drop> Drop for RingOut<T> {
 #[derive(Drop)]
 pub struct RingIn<T> {
     pub(crate) items: Consumer<Item<T>>,
-    pub(crate) back: Producer<u32>,
+    pub(crate) back: Producer<Grant>,
     pub(crate) initial: usize,
-    pub(crate) late: Option<u32>,
+    pub(crate) late: Option<Grant>,
 }
 
 impl<T> LinkOut<T> for RingOut<T> {
@@ -68,12 +69,12 @@ impl<T> LinkOut<T> for RingOut<T> {
     }
 
     #[tactic(auto, using(crate::proofs::Forms::in_form_rules))]
-    fn end(&mut self, reason: EndReason) {
-        self.items.push_reserved(Item::End(reason));
+    fn end(&mut self, reason: EndReason, stamp: Stamp) {
+        self.items.push_reserved(Item::End { reason, stamp });
         self.ended = true;
     }
 
-    fn granted(&mut self) -> Option<u32> {
+    fn granted(&mut self) -> Option<Grant> {
         if self.back.cached_slots() == 0 {
             return None;
         }
@@ -139,9 +140,9 @@ impl<T> RingIn<T> {
         ensures sent { 0 < known_free self.old.back → self.new.late ≡ None }
         ensures none_waited { self.old.late ≡ None → self.new.late ≡ None }
     {
-        if let Some(amount) = self.late {
+        if let Some(grant) = self.late {
             if self.back.cached_slots() > 0 {
-                self.back.push_reserved(amount);
+                self.back.push_reserved(grant);
                 self.late = None;
             }
         }
@@ -180,8 +181,8 @@ impl<T> LinkIn<T> for RingIn<T> {
         Some(self.items.peek_known())
     }
 
-    fn grant(&mut self, amount: u32) {
-        self.late = Some(amount);
+    fn grant(&mut self, grant: Grant) {
+        self.late = Some(grant);
         self.send_late();
     }
 

@@ -4,12 +4,34 @@ ghost use Rattle.ordered_link.specs.Steps.{HaveMet, PlainPuts};
 ghost use Rattle.ordered_link.specs.declared.item.Item.{Item};
 
 use crate::*;
-use ring_names::CreditSpec;
+use ring_names::{CreditSpec, Stamp};
 use std::test::Fail;
 
 const ONE: CreditSpec = CreditSpec {
     initial: 1,
     more: 1,
+};
+
+const FIRST: Stamp = Stamp {
+    round: 1,
+    time: 4,
+    party: 2,
+};
+
+const LATER: Stamp = Stamp {
+    round: 2,
+    time: 5,
+    party: 3,
+};
+
+const THREE: Grant = Grant {
+    amount: 3,
+    stamp: FIRST,
+};
+
+const FOUR: Grant = Grant {
+    amount: 4,
+    stamp: LATER,
 };
 
 // A put is refused exactly where the link holds as many loads as it may.
@@ -34,12 +56,18 @@ fn take_where_met(out: &PlainOut<u32>, link: &mut PlainIn<u32>) -> Option<Item<u
     link.take()
 }
 
-// Takes a load, and gives it; the reason of an End comes as 100 or 101.
+// Takes a load, and gives it; of an End comes the time of its stamp behind 100 or 200, by its reason.
 fn take<I: LinkIn<u32>>(link: &mut I) -> Option<u32> {
     match link.take()? {
         Item::Load(load) => Some(load),
-        Item::End(EndReason::Stopped) => Some(100),
-        Item::End(EndReason::Moved) => Some(101),
+        Item::End {
+            reason: EndReason::Stopped,
+            stamp,
+        } => Some(100 + stamp.time % 100),
+        Item::End {
+            reason: EndReason::Moved,
+            stamp,
+        } => Some(200 + stamp.time % 100),
     }
 }
 
@@ -51,7 +79,7 @@ fn carries_a_load_and_then_end(rt: HostRuntime) -> Result<(), Fail> {
     let (mut out, mut link) = plain_pair::<u32>(rt.alloc(), ONE)?;
     let first = out.put(7).err();
     let second = out.put(8).err();
-    out.end(EndReason::Moved);
+    out.end(EndReason::Moved, LATER);
     let early = link.peek().is_some();
     meet(&mut out, &mut link);
     let shown = matches!(link.peek(), Some(Item::Load(7)));
@@ -62,7 +90,7 @@ fn carries_a_load_and_then_end(rt: HostRuntime) -> Result<(), Fail> {
         take(&mut link),
         take(&mut link),
     ];
-    assert!(rt; !early && shown && told == [None, Some(8), Some(7), Some(101), None]);
+    assert!(rt; !early && shown && told == [None, Some(8), Some(7), Some(205), None]);
     Ok(())
 }
 
@@ -80,9 +108,9 @@ fn answers_exactly_where_the_ends_met(rt: HostRuntime) -> Result<(), Fail> {
 #[test]
 fn gives_a_grant_back_once(rt: HostRuntime) -> Result<(), Fail> {
     let (mut out, mut link) = plain_pair::<u32>(rt.alloc(), ONE)?;
-    link.grant(3);
+    link.grant(THREE);
     let first = link.waits();
-    link.grant(4);
+    link.grant(FOUR);
     let second = link.waits();
     let early = out.has_grant();
     meet(&mut out, &mut link);
@@ -91,7 +119,7 @@ fn gives_a_grant_back_once(rt: HostRuntime) -> Result<(), Fail> {
     meet(&mut out, &mut link);
     let taken = link.take().is_some();
     let told = [first, second, early, came, taken, link.waits()];
-    assert!(rt; granted == [Some(3), None] && told == [false, true, false, true, false, false]);
+    assert!(rt; granted == [Some(THREE), None] && told == [false, true, false, true, false, false]);
     Ok(())
 }
 
@@ -99,20 +127,20 @@ fn gives_a_grant_back_once(rt: HostRuntime) -> Result<(), Fail> {
 fn rings_carry_a_load_and_then_end(rt: HostRuntime) -> Result<(), Fail> {
     let (mut out, mut link) = ring_pair::<u32>(rt.alloc(), ONE)?;
     let put = [out.put(7).err(), out.put(8).err()];
-    out.end(EndReason::Moved);
+    out.end(EndReason::Moved, LATER);
     let early = link.peek().is_some();
     ring_meet(&mut out, &mut link);
     let shown = matches!(link.peek(), Some(Item::Load(7)));
     let taken = [take(&mut link), take(&mut link), take(&mut link)];
-    assert!(rt; put == [None, Some(8)] && !early && shown && taken == [Some(7), Some(101), None]);
+    assert!(rt; put == [None, Some(8)] && !early && shown && taken == [Some(7), Some(205), None]);
     Ok(())
 }
 
 #[test]
 fn rings_give_grants_back_and_tell_who_looks(rt: HostRuntime) -> Result<(), Fail> {
     let (mut out, mut link) = ring_pair::<u32>(rt.alloc(), ONE)?;
-    link.grant(3);
-    link.grant(4);
+    link.grant(THREE);
+    link.grant(FOUR);
     let early = [out.has_grant(), link.take().is_some()];
     out.look();
     let first = out.granted();
@@ -122,7 +150,7 @@ fn rings_give_grants_back_and_tell_who_looks(rt: HostRuntime) -> Result<(), Fail
     let put = out.put(7).is_ok();
     may_go(&out, &link);
     link.look();
-    assert!(rt; early == [false; 2] && late && granted == [Some(3), Some(4), None]);
+    assert!(rt; early == [false; 2] && late && granted == [Some(THREE), Some(FOUR), None]);
     assert!(rt; put && take(&mut link) == Some(7));
     Ok(())
 }

@@ -3,5 +3,6 @@ pub mod keeping
 pub mod lists
 pub mod meetings
 pub mod deposits
+pub mod rounds
 pub mod standing
 pub mod work

@@ -1,5 +1,7 @@
 pub mod Acting
+pub mod Alone
 pub mod Behind
+pub mod Closed
 pub mod Collecting
 pub mod Ends
 pub mod Gathered
@@ -10,6 +12,9 @@ pub mod Meeting
 pub mod Opened
 pub mod Parties
 pub mod Refused
+pub mod Round
+pub mod RoundActs
+pub mod Seated
 pub mod Standing
 pub mod States
 pub mod Tried

@@ -1,5 +1,6 @@
 -- What the parties of a cluster show: its members with the ends of their links, and its registrar with the links that wait there.
 use Rattle.std.specs.Prelude.{◌≡◌, ℕ, ◌++◌, Bool, false, List, [], map, slice_index_or, slice_set, Option, Some, None, option_map}
+use Rattle.ordered_link.specs.declared.grant.Grant.{Grant}
 use Rattle.ordered_link.specs.declared.item.Item.{Item}
 use Rattle.ordered_link.specs.declared.item.Item.TheVariants as item
 use Rattle.rtrb.specs.Ring.{sent, received as got, known_items, known_free}
@@ -38,15 +39,23 @@ ANode = Member (RingOut Load) (RingIn Load) ring_out
 -- an item of a link
 abbrev pub content : Item Load → Option PacketShown
 content (item.Load x) = Some (record { view = (packet_seen x).view; lines = (packet_by_id (packet_seen x)).lines })
-content (item.End reason) = None
+content (item.End reason stamp) = None
+
+-- the credit of grants
+abbrev pub amounts : List Grant → List ℕ
+amounts grants = map (λ (g : Grant). g.amount) grants
+
+-- and of one that waits
+abbrev pub amount_of : Option Grant → Option ℕ
+amount_of grant = option_map (λ (g : Grant). g.amount) grant
 
 -- an out end
 abbrev pub out_seen : RingOut Load → OutSeen
-out_seen o = record { put = map content (sent o.items); gained = got o.back; back = known_items o.back; initial = o.initial; free = known_free o.items; ended = o.ended; ring = out_pair o }
+out_seen o = record { put = map content (sent o.items); gained = amounts (got o.back); back = amounts (known_items o.back); initial = o.initial; free = known_free o.items; ended = o.ended; ring = out_pair o }
 
 -- an in end
 abbrev pub in_seen : RingIn Load → InSeen
-in_seen n = record { taken = map content (got n.items); items = map content (known_items n.items); given = sent n.back; late = n.late; initial = n.initial; free = known_free n.back; ring = in_pair n }
+in_seen n = record { taken = map content (got n.items); items = map content (known_items n.items); given = amounts (sent n.back); late = amount_of n.late; initial = n.initial; free = known_free n.back; ring = in_pair n }
 
 -- what the ends that a member has show
 abbrev pub EndsSeen : Type 0

@@ -9,11 +9,12 @@ ghost use Rattle.ring_parties.specs.Parties.{shown_of, shown_in, keeps_in};
 ghost use Rattle.ring_parties.specs.Keeps.{kept_after};
 ghost use Rattle.ring_parties.specs.Acting.{IsReady, IsBooked, step_refused, DoesStep};
 ghost use Rattle.ring_parties.specs.Acting.{is_alone, alone_refused, DoesAlone};
+ghost use Rattle.ring_parties.specs.Alone.{IsAlone};
 ghost use Rattle.ring_parties.specs.Tried.{IsJudged, Tries};
 
 use crate::control::Control;
 use crate::looking::{Replaced, ask, look};
-use crate::node::{Node, gain, pick, put, stop, take_end};
+use crate::node::{Node, be_alone, gain, pick, put, stop, take_end};
 use crate::parties::Parties;
 use crate::party::Party;
 use crate::queue::{say, take_packet};
@@ -45,6 +46,22 @@ fn first_named(members: &[Party], name: &Name) -> Option<usize>
 fn do_step(party: &mut Party, step: LinkStep) -> Result<(), Refused>
     requires ready { IsReady (shown_in party.old) }
     requires booked { IsBooked (shown_in party.old) (keeps_in party.old) }
+    ensures tries { Tries (step_refused step (shown_in party.old)) (DoesStep step)
+        (shown_in party.old) (shown_in party.new) result }
+    ensures keeps { OnOk result (keeps_in party.new ≡ kept_after (Steps step) (shown_in party.old) (keeps_in party.old)) }
+    ensures err { OnErr result (keeps_in party.new ≡ keeps_in party.old) }
+{
+    let Ok(()) = be_alone(&mut party.node) else {
+        return Err(Refused::OutOfMemory);
+    };
+    step_alone(party, step)
+}
+
+/// The same of one that is alone in its round.
+fn step_alone(party: &mut Party, step: LinkStep) -> Result<(), Refused>
+    requires ready { IsReady (shown_in party.old) }
+    requires booked { IsBooked (shown_in party.old) (keeps_in party.old) }
+    requires alone { IsAlone party.old.node }
     ensures tries { Tries (step_refused step (shown_in party.old)) (DoesStep step)
         (shown_in party.old) (shown_in party.new) result }
     ensures keeps { OnOk result (keeps_in party.new ≡ kept_after (Steps step) (shown_in party.old) (keeps_in party.old)) }
@@ -196,6 +213,9 @@ impl Parties {
             return Err(Refused::NotEnabled(reason));
         }
         let party = &mut self.members[i];
+        let Ok(()) = be_alone(&mut party.node) else {
+            return Err(Refused::OutOfMemory);
+        };
         notify(
             &mut party.control,
             &mut self.registrar,

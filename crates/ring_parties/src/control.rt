@@ -1,6 +1,5 @@
 //! The control rings of a member: one for what it asks of the registrar, and one for what is answered.
-ghost use Rattle.std.specs.Prelude.{◌≡◌, IfOk, IfErr, OnOk, OnErr, Ok, None};
-ghost use Rattle.ring_names.specs.declared.reason.Reason.{Reason};
+ghost use Rattle.std.specs.Prelude.{◌≡◌, IfOk, IfErr, OnOk, OnErr, None};
 ghost use Rattle.registrar.specs.Registry.{AreHere};
 ghost use Rattle.registrar.specs.Asked.{request_refusal};
 ghost use Rattle.registrar.specs.Handled.{handled, answered};
@@ -41,17 +40,26 @@ impl<T: Drop> Way<T> {
         Ok(Way { there, here })
     }
 
-    /// What came out at the other end. A value for which the ring has no slot is handed back.
+    /// What came out at the other end. A value for which the ring shows no slot is handed back.
     fn send(&mut self, value: T) -> Result<T, T>
-        ensures { result ≡ Ok value }
+        ensures ok { IfOk result (λ x. x ≡ value) }
+        ensures back { IfErr result (λ x. x ≡ value) }
     {
-        self.there.slots_beside(&mut self.here);
-        match self.there.push(value) {
-            Ok(()) => {}
-            Err(PushError::Full(value)) => return Err(value),
+        if let Err(PushError::Full(value)) = self.there.push(value) {
+            return Err(value);
         }
         self.here.slots_beside(&mut self.there);
         Ok(self.here.pop_known())
+    }
+
+    /// The same, once the ends have met: then there is a slot.
+    fn send_met(&mut self, value: T) -> T
+        ensures { result ≡ value }
+    {
+        self.there.slots_beside(&mut self.here);
+        self.there.push_reserved(value);
+        self.here.slots_beside(&mut self.there);
+        self.here.pop_known()
     }
 }
 
@@ -79,32 +87,27 @@ impl Control {
         })
     }
 
-    /// The request goes to the registrar, which handles it, and its answer comes back. Without memory the registrar
-    /// hands the request back.
+    /// The request goes to the registrar, which handles it, and its answer comes back. Where the ring shows no slot
+    /// for the request, and where memory is wanting, the request comes back and nothing has changed.
     pub(crate) fn visit(
         &mut self,
         registrar: &mut Registrar<RingIn<Load>>,
         request: Request<RingIn<Load>>,
     ) -> Result<Answer<RingIn<Load>>, (Request<RingIn<Load>>, OutOfMemory)>
-        requires { AreHere (registrar.old).links }
-        ensures refused { (r : Reason) → request_refusal registrar.old request ≡ Some r
-            → (result ≡ Ok (Answer.No r)) × (registrar.new ≡ registrar.old) }
-        ensures ok { request_refusal registrar.old request ≡ None
-            → OnOk result (registrar.new ≡ handled registrar.old request) }
-        ensures answer { request_refusal registrar.old request ≡ None
-            → IfOk result (λ a. a ≡ answered registrar.old request) }
+        requires here { AreHere (registrar.old).links }
+        requires allowed { request_refusal registrar.old request ≡ None }
+        ensures ok { OnOk result (registrar.new ≡ handled registrar.old request) }
+        ensures answer { IfOk result (λ a. a ≡ answered registrar.old request) }
         ensures err { OnErr result (registrar.new ≡ registrar.old) }
         ensures back { IfErr result (λ e. e.0 ≡ request) }
-        ensures memory { OnErr result (request_refusal registrar.old request ≡ None) }
         ensures here { AreHere (registrar.new).links }
     {
-        let Ok(request) = self.asked.send(request) else {
-            unreachable!()
-        };
-        let answer = registrar.handle(request)?;
-        let Ok(answer) = self.answered.send(answer) else {
-            unreachable!()
-        };
-        Ok(answer)
+        match self.asked.send(request) {
+            Ok(request) => {
+                let answer = registrar.handle(request)?;
+                Ok(self.answered.send_met(answer))
+            }
+            Err(request) => Err((request, OutOfMemory)),
+        }
     }
 }

@@ -7,6 +7,7 @@ mod acting;
 mod admitting;
 mod collecting;
 mod control;
+mod laws;
 mod looking;
 mod meeting;
 mod node;
@@ -18,6 +19,10 @@ mod queue;
 mod refusing;
 mod stepping;
 
+pub use laws::{
+    a_round_is_a_run, an_empty_round_is_closed, every_state_has_its_members,
+    parties_are_in_their_state, parties_stand_after_a_round,
+};
 pub use node::Node;
 pub use parties::Parties;
 pub use refusing::is_passing;

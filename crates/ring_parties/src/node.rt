@@ -4,6 +4,7 @@ ghost use Rattle.gm_member.specs.Held.{put_refused, pick_refused};
 ghost use Rattle.ring_parties.specs.Ends.{PacketShown};
 ghost use Rattle.ring_parties.specs.Keeps.{ops_taken, ops_next, messages_on, own_known, round_next};
 ghost use Rattle.ring_parties.specs.Parties.{shown_of};
+ghost use Rattle.ring_parties.specs.Alone.{IsAlone};
 ghost use Rattle.ring_parties.specs.Acting.{IsReady, packet_refused, link_end_refused, grant_refused};
 ghost use Rattle.ring_parties.specs.Acting.{first_item, stop_refused, PutsPacket, TakesPacket, TakesEnd, Gains, Halts};
 ghost use Rattle.ring_parties.specs.Acting.{Picks};
@@ -12,14 +13,27 @@ ghost use Rattle.ring_parties.specs.Tried.{IsJudged, Tries};
 use activity::Load;
 use gm_member::{Member, Taken};
 use ordered_link::{RingIn, RingOut};
+use ring_names::OutOfMemory;
 use ring_rules::Refused;
 
 /// A member whose links are ring pairs.
 pub type Node = Member<RingOut<Load>, RingIn<Load>>;
 
+/// The number of a round in which a member is alone: no stamp of it has a time.
+const ALONE: u32 = 0;
+
+/// The member is alone in its round from now on, and has room to record what it does next.
+pub(crate) fn be_alone(node: &mut Node) -> Result<(), OutOfMemory>
+    ensures alone { OnOk result (IsAlone node.new) }
+    ensures same { shown_of node.new ≡ shown_of node.old }
+{
+    node.begin(ALONE, true, 1)
+}
+
 /// The member puts its next packet, where that is enabled.
 pub(crate) fn put(node: &mut Node) -> Result<(), Refused>
-    requires { IsReady (shown_of node.old) }
+    requires ready { IsReady (shown_of node.old) }
+    requires alone { IsAlone node.old }
     ensures { Tries (put_refused (shown_of node.old).held) PutsPacket (shown_of node.old) (shown_of node.new) result }
 {
     node.put()?;
@@ -28,7 +42,8 @@ pub(crate) fn put(node: &mut Node) -> Result<(), Refused>
 
 /// The member takes the oldest packet of the link from which it takes, where there is one: what that brings.
 pub(crate) fn take(node: &mut Node) -> Result<Vec<Taken>, Refused>
-    requires { IsReady (shown_of node.old) }
+    requires ready { IsReady (shown_of node.old) }
+    requires alone { IsAlone node.old }
     ensures judged { IsJudged (packet_refused (shown_of node.old)) result }
     ensures ok { OnOk result (TakesPacket (shown_of node.old) (shown_of node.new)) }
     ensures ops { IfOk result (λ taken. ops_taken taken.items ≡ ops_next (shown_of node.old)) }
@@ -45,7 +60,8 @@ pub(crate) fn take(node: &mut Node) -> Result<Vec<Taken>, Refused>
 
 /// The member takes the end of that link, where it is next, and leaves it.
 pub(crate) fn take_end(node: &mut Node) -> Result<(), Refused>
-    requires { IsReady (shown_of node.old) }
+    requires ready { IsReady (shown_of node.old) }
+    requires alone { IsAlone node.old }
     ensures { Tries (link_end_refused (shown_of node.old)) TakesEnd (shown_of node.old) (shown_of node.new) result }
 {
     node.take_end()?;
@@ -63,16 +79,17 @@ pub(crate) fn drop_old_ins(node: &mut Node)
 
 /// The member gains the oldest grant that came back, where there is one.
 pub(crate) fn gain(node: &mut Node) -> Result<(), Refused>
-    requires { IsReady (shown_of node.old) }
+    requires ready { IsReady (shown_of node.old) }
+    requires alone { IsAlone node.old }
     ensures { Tries (grant_refused (shown_of node.old)) Gains (shown_of node.old) (shown_of node.new) result }
 {
     if let Some(reason) = node.gain_refusal() {
         return Err(Refused::NotEnabled(reason));
     }
-    let Some(amount) = node.granted() else {
+    let Some(grant) = node.granted() else {
         unreachable!()
     };
-    match node.gain(amount) {
+    match node.gain(grant) {
         Ok(()) => Ok(()),
         Err(_) => unreachable!(),
     }
@@ -80,7 +97,8 @@ pub(crate) fn gain(node: &mut Node) -> Result<(), Refused>
 
 /// The member stops, where it acts.
 pub(crate) fn stop(node: &mut Node) -> Result<(), Refused>
-    requires { IsReady (shown_of node.old) }
+    requires ready { IsReady (shown_of node.old) }
+    requires alone { IsAlone node.old }
     ensures tries { Tries (stop_refused (shown_of node.old)) Halts (shown_of node.old) (shown_of node.new) result }
     ensures succeeds { stop_refused (shown_of node.old) ≡ None → IsOk result }
 {
@@ -90,7 +108,8 @@ pub(crate) fn stop(node: &mut Node) -> Result<(), Refused>
 
 /// The member takes from now on from the first link at its door that it may, where there is one.
 pub(crate) fn pick(node: &mut Node) -> Result<(), Refused>
-    requires { IsReady (shown_of node.old) }
+    requires ready { IsReady (shown_of node.old) }
+    requires alone { IsAlone node.old }
     ensures { Tries (pick_refused (shown_of node.old).held) Picks (shown_of node.old) (shown_of node.new) result }
 {
     node.pick()?;

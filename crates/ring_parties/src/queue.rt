@@ -19,10 +19,11 @@ ghost use Rattle.ring_parties.specs.Keeps.{said_by, saying_refused, publishing, 
 ghost use Rattle.ring_parties.specs.Keeps.{kind_of_message, own_known};
 ghost use Rattle.ring_parties.specs.Acting.{IsReady, IsBooked, Casts, TakesPacket, packet_refused, alone_refused};
 ghost use Rattle.ring_parties.specs.Acting.{DoesAlone};
+ghost use Rattle.ring_parties.specs.Alone.{IsAlone};
 ghost use Rattle.ring_parties.specs.Acting.{first_item as the_first};
 ghost use Rattle.ring_parties.specs.Tried.{IsJudged};
 
-use crate::node::{Node, take};
+use crate::node::{Node, be_alone, take};
 use crate::party::Party;
 use crate::refusing::{first_item, up_refusal};
 use activity::{Load, Packet};
@@ -163,12 +164,16 @@ pub(crate) fn say(party: &mut Party, event: &Event) -> Result<(), Refused>
     let Ok(message) = message(party, event) else {
         return Err(Refused::OutOfMemory);
     };
+    let Ok(()) = be_alone(&mut party.node) else {
+        return Err(Refused::OutOfMemory);
+    };
     publish(party, message)
 }
 
 /// It publishes a message, which its own mirror takes at once, and notes it in its book.
 fn publish(party: &mut Party, message: Message) -> Result<(), Refused>
-    requires { last_of (keeps_in party.old).book ≡ got_of (own_known (shown_in party.old).held) }
+    requires last { last_of (keeps_in party.old).book ≡ got_of (own_known (shown_in party.old).held) }
+    requires alone { IsAlone party.old.node }
     ensures judged { IsJudged (up_refused (shown_in party.old).held None) result }
     ensures ok { OnOk result (Casts message (shown_in party.old) (shown_in party.new)) }
     ensures keeps { OnOk result (keeps_in party.new
@@ -292,7 +297,7 @@ fn carried(node: &Node) -> usize
 {
     match first_item(node) {
         Some(Item::Load(load)) => messages_on_load(load),
-        Some(Item::End(_)) | None => 0,
+        Some(Item::End { .. }) | None => 0,
     }
 }
 
@@ -314,6 +319,7 @@ fn apply_taken(mirror: &mut Mirror, taken: Vec<Taken>)
 /// packet is taken.
 pub(crate) fn take_packet(party: &mut Party) -> Result<(), Refused>
     requires ready { IsReady (shown_in party.old) }
+    requires alone { IsAlone party.old.node }
     requires booked { IsBooked (shown_in party.old) (keeps_in party.old) }
     ensures judged { IsJudged (packet_refused (shown_in party.old)) result }
     ensures ok { OnOk result (TakesPacket (shown_in party.old) (shown_in party.new)) }

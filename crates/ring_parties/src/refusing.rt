@@ -179,7 +179,7 @@ fn packet_refusal(node: &Node) -> Option<Reason>
     }
     match first_item(node) {
         Some(Item::Load(Load::Packet(packet))) => view_refusal(packet, node.view().version),
-        Some(Item::End(_)) => Some(Reason::EndNext),
+        Some(Item::End { .. }) => Some(Reason::EndNext),
         None => Some(Reason::NothingToTake),
     }
 }
@@ -194,7 +194,7 @@ fn link_end_refusal(node: &Node) -> Option<Reason>
     }
     match first_item(node) {
         Some(Item::Load(_)) => Some(Reason::PacketNext),
-        Some(Item::End(_)) => None,
+        Some(Item::End { .. }) => None,
         None => Some(Reason::NothingToTake),
     }
 }

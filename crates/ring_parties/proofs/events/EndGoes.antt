@@ -46,10 +46,10 @@ module _ (credit : CreditSpec) (w : World) (x s : ℕ) (h : IsLawfulAt credit w)
   other y ne = member_other w x y (with_current None (member_at w x)) ne
 
   -- what each link has but for its end
-  end_same : {A : Type 0} (f : Link → A) → f (finished (link_at w s)) ≡ f (link_at w s) → (j : ℕ) → f (link_at (leave_link w x s) j) ≡ f (link_at w j)
+  pub end_same : {A : Type 0} (f : Link → A) → f (finished (link_at w s)) ≡ f (link_at w s) → (j : ℕ) → f (link_at (leave_link w x s) j) ≡ f (link_at w j)
   end_same f e j = same_link_of f w s (finished (link_at w s)) sl e j
 
-  end_outs : (y : ℕ) → (member_at (leave_link w x s) y).out ≡ (member_at w y).out
+  pub end_outs : (y : ℕ) → (member_at (leave_link w x s) y).out ≡ (member_at w y).out
   end_outs y = same_of (λ (z : Member). z.out) w x (with_current None (member_at w x)) lt refl y
 
   -- nothing comes to a door, and nothing goes

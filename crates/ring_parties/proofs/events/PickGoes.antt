@@ -53,7 +53,7 @@ module _ (w : World) (x s : ℕ) (lt : x < size w) (none : (member_at w x).curre
   other : (y : ℕ) → y ≢ x → member_at (current_is w x (Some s)) y ≡ member_at w y
   other y ne = member_other w x y (with_current (Some s) (member_at w x)) ne
 
-  pick_outs : (y : ℕ) → (member_at (current_is w x (Some s)) y).out ≡ (member_at w y).out
+  pub pick_outs : (y : ℕ) → (member_at (current_is w x (Some s)) y).out ≡ (member_at w y).out
   pick_outs y = same_of (λ (z : Member). z.out) w x (with_current (Some s) (member_at w x)) lt refl y
 
   pub pick_waits : (k : ℕ) → waits_for (current_is w x (Some s)) x k ≡ (waits_for w x k && not (nat_eq s k))
@@ -107,7 +107,7 @@ module _ (w : World) (x s : ℕ) (lt : x < size w) (none : (member_at w x).curre
 -- ---- the parties
 
 -- the link that is picked stood at the door
-door_waits : (w : World) (x s : ℕ) (credit : CreditSpec) → IsLawfulAt credit w → (member_at w x).current ≡ None → at_door w x ≡ Some s → waits_for w x s ≡ true
+pub door_waits : (w : World) (x s : ℕ) (credit : CreditSpec) → IsLawfulAt credit w → (member_at w x).current ≡ None → at_door w x ≡ Some s → waits_for w x s ≡ true
 door_waits w x s credit h none e =
     let found = position-Some (is_at_door w x) w.links s no_link e in
     (pickable_is_door w x s h.fit.good found.0 (ap (λ c. is_place c s) none) found.1).0

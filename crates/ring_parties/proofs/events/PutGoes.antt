@@ -15,7 +15,7 @@ use Rattle.gm_member.specs.Stands.{held_in, outgoing_in, StandsFor}
 use Rattle.gm_member.proofs.Fit.{IsFit}
 use Rattle.gm_member.proofs.PutStands.{leaving, put_stands, put_packet}
 use Rattle.gm_member.proofs.Others.{put_others}
-use Rattle.ring_parties.specs.Ends.{PacketShown, OutSeen, InSeen, packet_in, packets_in, end_items, Carries}
+use Rattle.ring_parties.specs.Ends.{PacketShown, OutSeen, InSeen, packet_in, packets_in, end_items, items_in, Carries}
 use Rattle.ring_parties.specs.Parties.{Shown, Parties, node_at, Keeps}
 use Rattle.ring_parties.specs.Standing.{Places, MemberStands, Stand}
 use Rattle.ring_parties.specs.Acting.{sent_of, Acts, ActsOut}
@@ -27,20 +27,24 @@ use Rattle.ring_parties.proofs.standing.Frames.{StandMoved, acts_carries, packet
 
 -- ---- one link
 
-pub put_carries : (initial : ℕ) (w : World) (l : Link) (o o' : OutSeen) (n : InSeen) (k : PacketShown) (packet : Packet) → l.ending ≡ None → before_next l.had l.packets ≡ l.sending → Some k ≡ packet_in w l.sending packet → ActsOut (Some k ∷ []) [] false o o' → Carries w initial l o n → Carries w initial (pushed l packet) o' n
-put_carries initial w l o o' n k packet goes_on behind e t =
-    acts_carries initial w l (pushed l packet) o o' n (Some k ∷ []) false t
-    (ap (λ g. (packets_in w l.had l.packets ++ end_items g) ++ Some k ∷ []) goes_on
+-- one more packet stands on it
+pub put_items : (w : World) (l : Link) (k : PacketShown) (packet : Packet) → l.ending ≡ None → before_next l.had l.packets ≡ l.sending → Some k ≡ packet_in w l.sending packet → items_in w l ++ Some k ∷ [] ≡ items_in w (pushed l packet)
+put_items w l k packet goes_on behind e =
+    ap (λ g. (packets_in w l.had l.packets ++ end_items g) ++ Some k ∷ []) goes_on
     ∙ ap (λ xs. xs ++ Some k ∷ []) (append-nil (packets_in w l.had l.packets))
     ∙ ap (λ x. packets_in w l.had l.packets ++ x ∷ []) e
     ∙ ap (λ b. packets_in w l.had l.packets ++ packet_in w b packet ∷ []) (sym behind)
     ∙ sym (packets_push w l.had l.packets packet)
     ∙ sym (append-nil (packets_in w l.had (l.packets ++ packet ∷ [])))
-    ∙ ap (λ g. packets_in w l.had (l.packets ++ packet ∷ []) ++ end_items g) (sym goes_on))
-    refl (sym (ap is_some goes_on))
+    ∙ ap (λ g. packets_in w l.had (l.packets ++ packet ∷ []) ++ end_items g) (sym goes_on)
+
+-- and its ends carry it
+pub put_carries : (initial : ℕ) (w : World) (l : Link) (o o' : OutSeen) (n : InSeen) (k : PacketShown) (packet : Packet) → l.ending ≡ None → before_next l.had l.packets ≡ l.sending → Some k ≡ packet_in w l.sending packet → ActsOut (Some k ∷ []) [] false o o' → Carries w initial l o n → Carries w initial (pushed l packet) o' n
+put_carries initial w l o o' n k packet goes_on behind e t =
+    acts_carries initial w l (pushed l packet) o o' n (Some k ∷ []) false t (put_items w l k packet goes_on behind e) refl (sym (ap is_some goes_on))
 
 -- the packet that the member puts stands for that of the ring
-put_sent : (w : World) (x s : ℕ) (g : Held) (out : Outgoing) → IsFit w → 1 ≤ x → x < size w → (member_at w x).phase ≡ Up → (member_at w x).out ≡ Some s → g ≡ record (held_in w x) { door = g.door } → outgoing_in w s ≡ out → Some (sent_of (packet_on g.view.version g.known out)) ≡ packet_in w (link_at w s).sending (leaving w x s)
+pub put_sent : (w : World) (x s : ℕ) (g : Held) (out : Outgoing) → IsFit w → 1 ≤ x → x < size w → (member_at w x).phase ≡ Up → (member_at w x).out ≡ Some s → g ≡ record (held_in w x) { door = g.door } → outgoing_in w s ≡ out → Some (sent_of (packet_on g.view.version g.known out)) ≡ packet_in w (link_at w s).sending (leaving w x s)
 put_sent w x s g out f some lt up sends e is =
     let k : PacketById = packet_on (held_in w x).view.version (held_in w x).known (outgoing_in w s) in
     let stands : StandsFor w (link_at w s).sending k (leaving w x s) = put_packet w x s f some lt up sends in

@@ -44,7 +44,7 @@ use Rattle.ring_parties.proofs.events.Steps.{goes_so, ways_leave, same_phases, c
 -- ---- one link
 
 -- what stands behind the first packet
-drop_first : (w : World) (before : Sending) (ks : List Packet) (es : List (Option PacketShown)) → is_empty ks ≡ false → drop 1 (packets_in w before ks ++ es) ≡ packets_in w (passed (get_or ks 0 no_packet)) (drop 1 ks) ++ es
+pub drop_first : (w : World) (before : Sending) (ks : List Packet) (es : List (Option PacketShown)) → is_empty ks ≡ false → drop 1 (packets_in w before ks ++ es) ≡ packets_in w (passed (get_or ks 0 no_packet)) (drop 1 ks) ++ es
 drop_first w before [] es e = absurd (false≢true (sym e))
 drop_first w before (k ∷ ks) es e = refl
 
@@ -65,7 +65,7 @@ take_carries initial w l o n n' k due some ed known t c =
     }
 
 -- the packet that is taken is the oldest
-first_packet : (w : World) (before : Sending) (ks : List Packet) (es : List (Option PacketShown)) (k : PacketShown) (xs : List (Option PacketShown)) → is_empty ks ≡ false → Some k ∷ xs ≡ packets_in w before ks ++ es → k.lines ≡ lines_in w before (get_or ks 0 no_packet)
+pub first_packet : (w : World) (before : Sending) (ks : List Packet) (es : List (Option PacketShown)) (k : PacketShown) (xs : List (Option PacketShown)) → is_empty ks ≡ false → Some k ∷ xs ≡ packets_in w before ks ++ es → k.lines ≡ lines_in w before (get_or ks 0 no_packet)
 first_packet w before [] es k xs some e = absurd (false≢true (sym some))
 first_packet w before (packet ∷ ks) es k xs some e =
     let both : Some k ≡ packet_in w before packet = cc in
@@ -112,7 +112,7 @@ pub record TakesAs (w : World) (x s : ℕ) (k : PacketById) (y : Member) : Type 
   pub stands : k.lines ≡ lines_in w (link_at w s).had (oldest (link_at w s)) → took_held (held_in w x) k ≡ held_in (takes_in w x s y) x
   pub others : (z : ℕ) → z ≢ x → held_in w z ≡ held_in (takes_in w x s y) z
 
-take_ways : (w : World) (x s : ℕ) (k : PacketById) (y : Member) → s < length w.links → TakesAs w x s k y → SameWays w (takes_in w x s y)
+pub take_ways : (w : World) (x s : ℕ) (k : PacketById) (y : Member) → s < length w.links → TakesAs w x s k y → SameWays w (takes_in w x s y)
 take_ways w x s k y sl t =
     let w1 : World = with_member w x y in
     ways_both w w1 (takes_in w x s y) (member_ways w x y t.is_member t.same.0 t.same.1 t.same.2) (link_ways w1 s (popped (link_at w s)) sl refl)

@@ -27,7 +27,6 @@ use Rattle.ring_rules.proofs.events.Composed.{end_composed, refresh_composed}
 use Rattle.ring_rules.proofs.events.Enabled.{take_effect}
 use Rattle.ring_rules.proofs.events.Leaves.{member_leaves}
 use Rattle.ring_rules.proofs.queue.Likes.{not_both}
-use Rattle.gm_member.specs.Packets.{PacketById}
 use Rattle.gm_member.specs.Held.{Held, Incoming, at_some}
 use Rattle.gm_member.specs.News.{news_of}
 use Rattle.gm_member.specs.Stands.{held_in, lines_in, taken_in, taken_below}
@@ -45,7 +44,7 @@ use Rattle.ring_parties.proofs.events.OneEvent.{stands_at, held_but_door}
 use Rattle.ring_parties.proofs.events.Ready.{all_settled, settled_items}
 use Rattle.ring_parties.proofs.events.TakeGoes.{TakesNext, takes_next}
 use Rattle.ring_parties.proofs.keeping.Brought.{brings}
-use Rattle.ring_parties.proofs.keeping.Rounds.{published_book, joiner_round, TakesRound, takes_round}
+use Rattle.ring_parties.proofs.keeping.Rounds.{published_book, joiner_round, oldest_of, TakesRound, takes_round}
 
 -- ---- where each member has of its queue what it had
 
@@ -58,9 +57,9 @@ abbrev kept_of : ℕ → Member → Keeps
 kept_of x y = kept_with (row_at y x).forgot y
 
 -- Each member has what it had.
-record Same (w w' : World) : Type 0 where
-  many : size w' ≡ size w
-  each : (q : ℕ) → keeps_of w' q ≡ keeps_of w q
+pub record Same (w w' : World) : Type 0 where
+  pub many : size w' ≡ size w
+  pub each : (q : ℕ) → keeps_of w' q ≡ keeps_of w q
 
 -- nothing happens
 same : (w : World) → Same w w
@@ -71,7 +70,7 @@ same_then : (w u w' : World) → Same w u → Same u w' → Same w w'
 same_then w u w' a b = record { many = b.many ∙ a.many; each = λ q. b.each q ∙ a.each q }
 
 -- the members are the same
-same_members : (w w' : World) → w'.members ≡ w.members → Same w w'
+pub same_members : (w w' : World) → w'.members ≡ w.members → Same w w'
 same_members w w' e = record { many = ap length e; each = λ q. ap (λ ms. kept_of q (get_or ms q no_member)) e }
 
 -- one member is another, with the same of its queue
@@ -84,15 +83,15 @@ same_found None w f h = same w
 same_found (Some s) w f h = h s
 
 -- a member takes from another link, or from none
-same_current : (w : World) (x : ℕ) (c : Option ℕ) → Same w (current_is w x c)
+pub same_current : (w : World) (x : ℕ) (c : Option ℕ) → Same w (current_is w x c)
 same_current w x c = same_member w x (with_current c (member_at w x)) refl
 
 -- it has taken a link to its end
-same_left : (w : World) (x s : ℕ) → Same w (leave_link w x s)
+pub same_left : (w : World) (x s : ℕ) → Same w (leave_link w x s)
 same_left w x s = same_then w (current_is w x None) (leave_link w x s) (same_current w x None) (same_members (current_is w x None) (leave_link w x s) refl)
 
 -- it stops
-same_stopped : (w : World) (x : ℕ) → Same w (end_out Halted (stop_at w x) (member_at w x).out)
+pub same_stopped : (w : World) (x : ℕ) → Same w (end_out Halted (stop_at w x) (member_at w x).out)
 same_stopped w x = end_composed (Same w) Halted (stop_at w x) (member_at w x).out
     (λ k e h. same_then w (stop_at w x) (with_link (stop_at w x) k (ended Halted (link_at (stop_at w x) k))) h (same_members (stop_at w x) (with_link (stop_at w x) k (ended Halted (link_at (stop_at w x) k))) refl))
     (same_member w x (stopped (member_at w x)) refl)
@@ -118,13 +117,13 @@ same_viewed w x g = same_then w (with_view w g) (refreshed (with_view w g) x (ne
 -- ---- where one member has something else
 
 -- One member has this afterwards, and each other has what it had.
-record Changed (w w' : World) (x : ℕ) (k : Keeps) : Type 0 where
-  many : size w' ≡ size w
-  here : keeps_of w' x ≡ k
-  others : (q : ℕ) → q ≢ x → keeps_of w' q ≡ keeps_of w q
+pub record Changed (w w' : World) (x : ℕ) (k : Keeps) : Type 0 where
+  pub many : size w' ≡ size w
+  pub here : keeps_of w' x ≡ k
+  pub others : (q : ℕ) → q ≢ x → keeps_of w' q ≡ keeps_of w q
 
 -- none has something else
-same_changed : (w w' : World) (x : ℕ) → Same w w' → Changed w w' x (keeps_of w x)
+pub same_changed : (w w' : World) (x : ℕ) → Same w w' → Changed w w' x (keeps_of w x)
 same_changed w w' x s = record { many = s.many; here = s.each x; others = λ q _. s.each q }
 
 -- a member is written
@@ -136,7 +135,7 @@ written_changed w w' x y lt e = record {
 }
 
 -- a member publishes a message
-published_changed : (w : World) (x : ℕ) (m : Message) → IsFit w → x < size w → Changed w (publish_at w x m) x (publishing m (member_at w x).version (keeps_of w x))
+pub published_changed : (w : World) (x : ℕ) (m : Message) → IsFit w → x < size w → Changed w (publish_at w x m) x (publishing m (member_at w x).version (keeps_of w x))
 published_changed w x m f lt =
     let y : Member = published x m (member_at w x) in
     let round : round_of (publish_at w x m) x ≡ (row_at y x).forgot = ap (λ (z : Member). (row_at z x).forgot) (get_or-set_same w.members x y no_member lt) in
@@ -215,11 +214,7 @@ said_kept w p x s m k f a is =
 
 -- ---- what a member takes
 
--- the oldest packet of a link, as its receiver sees it
-abbrev next_of : World → ℕ → PacketById
-next_of w s = record { view = (oldest (link_at w s)).version; first = false; lines = lines_in w (link_at w s).had (oldest (link_at w s)) }
-
--- it is the first of the items
+-- the oldest packet of a link is the first of its items
 first_brings : (w : World) (h : Held) (before : Sending) (ks : List Packet) (es : List (Option PacketShown)) → is_empty ks ≡ false
     → ops_first h (packets_in w before ks ++ es) ≡ ops_taken (news_of h (record { view = (get_or ks 0 no_packet).version; first = false; lines = lines_in w before (get_or ks 0 no_packet) }))
 first_brings w h before [] es e = absurd (false≢true (sym e))
@@ -227,7 +222,7 @@ first_brings w h before (k ∷ ks) es e = refl
 
 -- so the next packet of a member's link brings what the oldest of the ring's does
 next_brings : (credit : CreditSpec) (w : World) (q : Parties) (x s : ℕ) (m : Shown) (st : Stand credit.initial w q) → IsLawfulAt credit w → MemberStands w st.places x m → (member_at w x).current ≡ Some s → is_empty (link_at w s).packets ≡ false
-    → ops_next m ≡ ops_taken (news_of (held_in w x) (next_of w s))
+    → ops_next m ≡ ops_taken (news_of (held_in w x) (oldest_of w s))
 next_brings credit w q x s m st h a current some =
     let p : Places = st.places in
     let sl : s < length w.links = (h.fit.own_ends.current x s current).0 in
@@ -235,35 +230,35 @@ next_brings credit w q x s m st h a current some =
     ap (λ o. ops_first m.held (at_some o [] (λ (n : InSeen). n.items))) (a.link ∙ ap (option_map p.ins) current)
     ∙ ap (ops_first m.held) (settled_items credit.initial w s (p.outs s) (p.ins s) (all_settled w p s st.met sl has) (st.stand.carry s sl has))
     ∙ first_brings w m.held (link_at w s).had (link_at w s).packets (end_items (link_at w s).ending) some
-    ∙ ap (λ (g : Held). ops_taken (news_of g (next_of w s))) (held_but_door w p x m a)
+    ∙ ap (λ (g : Held). ops_taken (news_of g (oldest_of w s))) (held_but_door w p x m a)
 
 -- what a member has whose mirror takes these operations, and to whom so many messages have come round
-abbrev with_ops : World → ℕ → ℕ → List Op → Keeps
+abbrev pub with_ops : World → ℕ → ℕ → List Op → Keeps
 with_ops w x round os = record (keeps_of w x) { mirror = apply_ops (member_at w x).mirror os; book = book_in round (kinds_of w x) }
 
 -- the state after a take
-abbrev after_take : World → ℕ → World
+abbrev pub after_take : World → ℕ → World
 after_take w x = at_found (member_at w x).current w (taken_by (member_at w x).phase w x)
 
 -- a member takes a packet: who waits has what it had, and the mirror of who is up takes what is brought
-take_changed : (w : World) (x s : ℕ) (g : Phase) → IsFit w → (member_at w x).phase ≡ g → is_stopped g ≡ false → 1 ≤ x → x < size w → (member_at w x).current ≡ Some s → is_empty (link_at w s).packets ≡ false → (oldest (link_at w s)).version ≤ (member_at w x).version
-    → Changed w (after_take w x) x (with_ops w x (round_of (after_take w x) x) (ops_taken (news_of (held_in w x) (next_of w s))))
+pub take_changed : (w : World) (x s : ℕ) (g : Phase) → IsFit w → (member_at w x).phase ≡ g → is_stopped g ≡ false → 1 ≤ x → x < size w → (member_at w x).current ≡ Some s → is_empty (link_at w s).packets ≡ false → (oldest (link_at w s)).version ≤ (member_at w x).version
+    → Changed w (after_take w x) x (with_ops w x (round_of (after_take w x) x) (ops_taken (news_of (held_in w x) (oldest_of w s))))
 take_changed w x s Waiting f waits runs some lt current has version =
     let b : BeginsFrom w x s = record { some = some; is_member = lt; waits = waits; current = current; has = has; version = version } in
     let state : at_found (member_at w x).current w (taken_by (member_at w x).phase w x) ≡ begin_from w x s =
     ap (λ c. at_found c w (taken_by (member_at w x).phase w x)) current ∙ ap (λ g. taken_by g w x s) waits in
-    let none : ops_taken (news_of (held_in w x) (next_of w s)) ≡ [] =
-    ap ops_taken (begin_brings w x s (next_of w s) b ∙ ap (λ c. taken_in w c x) current ∙ ap (λ (g : Phase). cond (is_waiting g) [] (taken_below 64 w x s)) waits) in
-    subst (λ v. Changed w v x (with_ops w x (round_of v x) (ops_taken (news_of (held_in w x) (next_of w s))))) (sym state)
+    let none : ops_taken (news_of (held_in w x) (oldest_of w s)) ≡ [] =
+    ap ops_taken (begin_brings w x s (oldest_of w s) b ∙ ap (λ c. taken_in w c x) current ∙ ap (λ (g : Phase). cond (is_waiting g) [] (taken_below 64 w x s)) waits) in
+    subst (λ v. Changed w v x (with_ops w x (round_of v x) (ops_taken (news_of (held_in w x) (oldest_of w s))))) (sym state)
     (subst (λ os. Changed w (begin_from w x s) x (with_ops w x (round_of (begin_from w x s) x) os)) (sym none)
     (written_changed w (begin_from w x s) x (begun (size w) (member_at w x) (oldest (link_at w s))) lt refl))
 take_changed w x s Up f up runs some lt current has version =
     let t : TakesFrom w x s = record { some = some; is_member = lt; up = up; current = current; has = has; version = version } in
     let state : at_found (member_at w x).current w (taken_by (member_at w x).phase w x) ≡ take_from w x s = take_effect w x s (member_at w x).current (member_at w x).phase current up in
-    let news : ops_taken (news_of (held_in w x) (next_of w s)) ≡ ring_news (size w) (is_owned (view_in w (member_at w x).version) x (link_at w s).sender) (log_of w) (member_at w x) (oldest (link_at w s)) =
-    ap ops_taken (news_are w x s (next_of w s) f t (record { view = refl; lines = refl }) ∙ ap (λ c. taken_in w c x) current)
+    let news : ops_taken (news_of (held_in w x) (oldest_of w s)) ≡ ring_news (size w) (is_owned (view_in w (member_at w x).version) x (link_at w s).sender) (log_of w) (member_at w x) (oldest (link_at w s)) =
+    ap ops_taken (news_are w x s (oldest_of w s) f t (record { view = refl; lines = refl }) ∙ ap (λ c. taken_in w c x) current)
     ∙ brings w x s f (λ waits. not_both (member_at w x).phase up waits) in
-    subst (λ v. Changed w v x (with_ops w x (round_of v x) (ops_taken (news_of (held_in w x) (next_of w s))))) (sym state)
+    subst (λ v. Changed w v x (with_ops w x (round_of v x) (ops_taken (news_of (held_in w x) (oldest_of w s))))) (sym state)
     (subst (λ os. Changed w (take_from w x s) x (with_ops w x (round_of (take_from w x s) x) os)) (sym news) (written_changed w (take_from w x s) x (taker w x s) lt refl))
 take_changed w x s Stopped f rests runs some lt current has version = absurd (false≢true (sym runs))
 
@@ -276,7 +271,7 @@ take_stands credit w i q ks h later enabled lt st kept =
     let n : TakesNext w x = takes_next w x enabled in
     let a : MemberStands w st.places x m = stands_at credit.initial w q st.places i st.stand lt in
     let round : TakesRound w x m = takes_round credit w q x m st h later a enabled (omega arith) lt in
-    let ops : List Op = ops_taken (news_of (held_in w x) (next_of w n.link)) in
+    let ops : List Op = ops_taken (news_of (held_in w x) (oldest_of w n.link)) in
     let k : Keeps = with_ops w x (round_of (done_as w x (Steps step.Take)) x) ops in
     let is : kept_after (Steps step.Take) m (keeps_at ks i) ≡ k =
     ap (kept_after (Steps step.Take) m) (own_kept w i ks kept lt)

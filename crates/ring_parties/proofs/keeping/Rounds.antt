@@ -86,7 +86,7 @@ first_round w h before [] es e = absurd (false≢true (sym e))
 first_round w h before (k ∷ ks) es e = refl
 
 -- the oldest packet of the link that a member takes from, as it sees it
-abbrev oldest_of : World → ℕ → PacketById
+abbrev pub oldest_of : World → ℕ → PacketById
 oldest_of w s = record { view = (oldest (link_at w s)).version; first = false; lines = lines_in w (link_at w s).had (oldest (link_at w s)) }
 
 -- the next packet of its link tells the member what this one does
@@ -103,8 +103,34 @@ next_round credit w q x s m st h a current some =
     ∙ ap (λ (g : Held). (own_known (took_held g k)).forgot) (held_but_door w p x m a)
     ∙ ap (λ (g : Held). (own_known g).forgot) (took_door (held_in w x) m.held.door k)
 
--- What a member's take makes of its own messages: up to this number they have come round then, which isn't less than before, and none
--- is there that wasn't.
+-- What a member's take of the oldest packet of link s makes of its own messages: up to this number they have come round then, which isn't less
+-- than before, and none is there that wasn't.
+pub record RoundTaken (w : World) (x s : ℕ) : Type 0 where
+  pub next : (own_known (took_held (held_in w x) (oldest_of w s))).forgot ≡ round_of (done_as w x (Steps step.Take)) x
+  pub within : round_of (done_as w x (Steps step.Take)) x ≤ length (kinds_of w x)
+  pub book : without_room (came_round (round_of (done_as w x (Steps step.Take)) x) (book_in (round_of w x) (kinds_of w x))) ≡ book_in (round_of (done_as w x (Steps step.Take)) x) (kinds_of w x)
+
+pub round_taken : (w : World) (x : ℕ) (n : TakesNext w x) → IsFit w → IsFit (done_as w x (Steps step.Take)) → refused_as w x (Steps step.Take) ≡ None → 1 ≤ x → x < size w → RoundTaken w x n.link
+round_taken w x n f later enabled first lt =
+    let s : ℕ = n.link in
+    let w' : World = done_as w x (Steps step.Take) in
+    let t = takes_as w x s (oldest_of w s) (member_at w x).phase f refl n.runs first lt n.current n.some n.version in
+    let y : Member = t.0 in
+    let is : member_at (takes_in w x s y) x ≡ y = get_or-set_same w.members x y no_member lt in
+    let log : log_of w' x ≡ log_of w x = ap (λ v. log_of v x) t.2 ∙ ap (λ (z : Member). z.log) is ∙ t.1.same.3 in
+    let few = f.few in
+    let e = event.Take (member_at w x).name in
+    let named = f.named x first lt in
+    let rises : round_of w x ≤ round_of w' x =
+    subst (λ v. round_of w x ≤ round_of v x) (done_there w x e named) ((f.goes e (refused_there w x e named ∙ enabled)).never_falls.forgot x x) in
+    let within : round_of w' x ≤ length (kinds_of w x) = subst (λ (l : List Message). round_of w' x ≤ length (map kind_of_message l)) log (round_within w' x later) in
+    record {
+      next = ap (λ (g : Held). (own_known g).forgot) (t.1.stands refl) ∙ own_round (takes_in w x s y) x first (omega (arith, lt, few)) ∙ ap (λ v. round_of v x) (sym t.2);
+      within = within;
+      book = book_in_round (kinds_of w x) (round_of w x) (round_of w' x) rises within;
+    }
+
+-- The same by the next packet of its link.
 pub record TakesRound (w : World) (x : ℕ) (m : Shown) : Type 0 where
   pub next : round_next m ≡ round_of (done_as w x (Steps step.Take)) x
   pub within : round_of (done_as w x (Steps step.Take)) x ≤ length (kinds_of w x)
@@ -114,20 +140,5 @@ pub takes_round : (credit : CreditSpec) (w : World) (q : Parties) (x : ℕ) (m :
     → TakesRound w x m
 takes_round credit w q x m st h later a enabled first lt =
     let n : TakesNext w x = takes_next w x enabled in
-    let s : ℕ = n.link in
-    let w' : World = done_as w x (Steps step.Take) in
-    let t = takes_as w x s (oldest_of w s) (member_at w x).phase h.fit refl n.runs first lt n.current n.some n.version in
-    let y : Member = t.0 in
-    let is : member_at (takes_in w x s y) x ≡ y = get_or-set_same w.members x y no_member lt in
-    let log : log_of w' x ≡ log_of w x = ap (λ v. log_of v x) t.2 ∙ ap (λ (z : Member). z.log) is ∙ t.1.same.3 in
-    let few = h.fit.few in
-    let e = event.Take (member_at w x).name in
-    let named = h.fit.named x first lt in
-    let rises : round_of w x ≤ round_of w' x =
-    subst (λ v. round_of w x ≤ round_of v x) (done_there w x e named) ((h.fit.goes e (refused_there w x e named ∙ enabled)).never_falls.forgot x x) in
-    let within : round_of w' x ≤ length (kinds_of w x) = subst (λ (l : List Message). round_of w' x ≤ length (map kind_of_message l)) log (round_within w' x later) in
-    record {
-      next = next_round credit w q x s m st h a n.current n.some ∙ ap (λ (g : Held). (own_known g).forgot) (t.1.stands refl) ∙ own_round (takes_in w x s y) x first (omega (arith, lt, few)) ∙ ap (λ v. round_of v x) (sym t.2);
-      within = within;
-      book = book_in_round (kinds_of w x) (round_of w x) (round_of w' x) rises within;
-    }
+    let r : RoundTaken w x n.link = round_taken w x n h.fit later enabled first lt in
+    record { next = next_round credit w q x n.link m st h a n.current n.some ∙ r.next; within = r.within; book = r.book }

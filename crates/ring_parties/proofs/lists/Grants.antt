@@ -4,12 +4,16 @@ use Rattle.credit_flow.specs.Link.{with_grant}
 use Rattle.std.specs.Prelude.{All}
 use Rattle.std.proofs.lemmas.Grind.{common_steps}
 use Rattle.std.proofs.lemmas.List.Elements.{All-push}
+use Rattle.std.proofs.lemmas.List.{map-append}
+use Rattle.ring_names.specs.declared.numbers.Stamp.{Stamp}
+use Rattle.ordered_link.specs.declared.grant.Grant.{Grant}
 use Rattle.ordered_link.specs.declared.ring.RingIn.{RingIn}
 use Rattle.rtrb.specs.Ring.{sent, known_free, SameProducer}
 use Rattle.ordered_link.specs.Waiting.{Sends}
 use Rattle.ordered_link.specs.RingSteps.{RingSends}
 use Rattle.activity.specs.declared.packet.Load.{Load}
 use Rattle.gm_member.specs.Loads.{GrantsIf}
+use Rattle.ring_parties.specs.Parties.{amounts}
 
 -- a grant is given after those that are under way
 pub append-with_grant : (xs ys : List ℕ) (grant : Option ℕ) → xs ++ with_grant ys grant ≡ with_grant (xs ++ ys) grant
@@ -37,26 +41,28 @@ ArePositive-with_grant false more gs l h = h
 -- ---- a take
 
 -- nothing waited, so the way back is as it was
-pub nothing_sent : (given given' : List ℕ) (late late' : Option ℕ) → late ≡ None → Sends given late given' late' → (given' ≡ given) × (late' ≡ None)
+pub nothing_sent : (given given' : List Grant) (late late' : Option Grant) → late ≡ None → Sends given late given' late' → (given' ≡ given) × (late' ≡ None)
 nothing_sent given given' late late' e s = ⊎_elim
     (λ (x : (given' ≡ given) × (late' ≡ late)). (x.0, x.1 ∙ e))
-    (λ (x : (late' ≡ None) × (g : ℕ) × (late ≡ Some g) × (given' ≡ given ++ g ∷ [])). absurd (cc (sym e ∙ x.2)))
+    (λ (x : (late' ≡ None) × (g : Grant) × (late ≡ Some g) × (given' ≡ given ++ g ∷ [])). absurd (cc (sym e ∙ x.2)))
     s
 
 -- where nothing waits afterwards, the grant has gone
-one_sent : (given given' : List ℕ) (late' : Option ℕ) (g : ℕ) → late' ≡ None → Sends given (Some g) given' late' → given' ≡ given ++ g ∷ []
+one_sent : (given given' : List Grant) (late' : Option Grant) (g : Grant) → late' ≡ None → Sends given (Some g) given' late' → given' ≡ given ++ g ∷ []
 one_sent given given' late' g e s = ⊎_elim
     (λ (x : (given' ≡ given) × (late' ≡ Some g)). absurd (cc (sym e ∙ x.1)))
-    (λ (x : (late' ≡ None) × (d : ℕ) × (Some g ≡ Some d) × (given' ≡ given ++ d ∷ [])). let d : x.1 ≡ g = cc (x.2) in x.3 ∙ ap (λ k. given ++ k ∷ []) d)
+    (λ (x : (late' ≡ None) × (d : Grant) × (Some g ≡ Some d) × (given' ≡ given ++ d ∷ [])). let d : x.1 ≡ g = cc (x.2) in x.3 ∙ ap (λ k. given ++ k ∷ []) d)
     s
 
-pub granted : (due : Option ℕ) (a b : RingIn Load) → 0 < known_free a.back → a.late ≡ None → GrantsIf due RingSends a b → (b.items ≡ a.items) × (sent b.back ≡ with_grant (sent a.back) due) × (b.late ≡ None) × (length (sent b.back) + known_free b.back ≡ length (sent a.back) + known_free a.back) × (b.initial ≡ a.initial) × SameProducer a.back b.back
-granted None a b free late e = (
+pub granted : (due : Option ℕ) (stamp : Stamp) (a b : RingIn Load) → 0 < known_free a.back → a.late ≡ None → GrantsIf due stamp RingSends a b → (b.items ≡ a.items) × (amounts (sent b.back) ≡ with_grant (amounts (sent a.back)) due) × (b.late ≡ None) × (length (sent b.back) + known_free b.back ≡ length (sent a.back) + known_free a.back) × (b.initial ≡ a.initial) × SameProducer a.back b.back
+granted None stamp a b free late e = (
   ap (λ x. x.items) e,
-  ap (λ x. sent x.back) e,
+  ap (λ x. amounts (sent x.back)) e,
   ap (λ x. x.late) e ∙ late,
   ap (λ x. length (sent x.back) + known_free x.back) e,
   ap (λ x. x.initial) e,
   ((ap (λ x. x.back.end.words) e, ap (λ x. x.back.end.slots) e, ap (λ x. x.back.end.names) e, ap (λ x. x.back.end.heap) e), ap (λ x. x.back.capacity) e),
 )
-granted (Some g) a b free late (items, same, sends, room, gone, initial) = (items, one_sent (sent a.back) (sent b.back) b.late g (gone free) sends, gone free, room, initial, same)
+granted (Some g) stamp a b free late (items, same, sends, room, gone, initial) =
+    let grant : Grant = record { amount = g; stamp = stamp } in
+    (items, ap amounts (one_sent (sent a.back) (sent b.back) b.late grant (gone free) sends) ∙ map-append (λ (x : Grant). x.amount) (sent a.back) (grant ∷ []), gone free, room, initial, same)

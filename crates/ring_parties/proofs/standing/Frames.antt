@@ -221,18 +221,21 @@ acts_carries initial w l l' o o' n items is_ended t stand grants ends c = record
   fits = acts_fit items [] is_ended o o' n t c.fits;
 }
 
--- and so where it has ended
-pub end_carries : (initial : ℕ) (w : World) (l l' : Link) (o o' : OutSeen) (n : InSeen) → l.ending ≡ None → packets_in w l'.had l'.packets ≡ packets_in w l.had l.packets → is_some l'.ending ≡ true → l'.flow.grants ≡ l.flow.grants → ActsOut (None ∷ []) [] true o o' → Carries w initial l o n → Carries w initial l' o' n
-end_carries initial w l l' o o' n goes_on ep ends eg t = acts_carries initial w l l' o o' n (None ∷ []) true t
-    (ap (λ e. (packets_in w l.had l.packets ++ end_items e) ++ None ∷ []) goes_on
+-- where a link has ended, its end stands behind what stood there
+pub end_put : (w : World) (l l' : Link) → l.ending ≡ None → packets_in w l'.had l'.packets ≡ packets_in w l.had l.packets → is_some l'.ending ≡ true → items_in w l ++ None ∷ [] ≡ items_in w l'
+end_put w l l' goes_on ep ends =
+    ap (λ e. (packets_in w l.had l.packets ++ end_items e) ++ None ∷ []) goes_on
     ∙ ap (λ xs. xs ++ None ∷ []) (append-nil (packets_in w l.had l.packets))
     ∙ ap (λ xs. xs ++ None ∷ []) (sym ep)
-    ∙ ap (λ xs. packets_in w l'.had l'.packets ++ xs) (last_item l'.ending ends))
-    eg (sym ends)
+    ∙ ap (λ xs. packets_in w l'.had l'.packets ++ xs) (last_item l'.ending ends)
   where
     last_item : (e : Option Ending) → is_some e ≡ true → None ∷ [] ≡ end_items e
     last_item None k = absurd (false≢true k)
     last_item (Some why) k = refl
+
+-- and its ends carry it
+pub end_carries : (initial : ℕ) (w : World) (l l' : Link) (o o' : OutSeen) (n : InSeen) → l.ending ≡ None → packets_in w l'.had l'.packets ≡ packets_in w l.had l.packets → is_some l'.ending ≡ true → l'.flow.grants ≡ l.flow.grants → ActsOut (None ∷ []) [] true o o' → Carries w initial l o n → Carries w initial l' o' n
+end_carries initial w l l' o o' n goes_on ep ends eg t = acts_carries initial w l l' o o' n (None ∷ []) true t (end_put w l l' goes_on ep ends) eg (sym ends)
 
 -- ---- members
 

@@ -4,6 +4,7 @@ use Rattle.std.specs.Prelude.{option_map, not}
 use Rattle.std.specs.List.{filter}
 use Rattle.std.proofs.lemmas.List.{map-append}
 use Rattle.ring_names.specs.declared.numbers.MemberId.{MemberId}
+use Rattle.ring_names.specs.declared.numbers.Stamp.{Stamp}
 use Rattle.group_view.specs.declared.link.LinkName.{LinkName}
 use Rattle.group_view.specs.declared.link.LinkKind.TheVariants.{Ring}
 use Rattle.group_view.specs.declared.request.Request.{Request}
@@ -29,7 +30,7 @@ use Rattle.gm_member.specs.Held.{at_some, refreshed_held, sends_to, stays, is_fo
 use Rattle.gm_member.specs.Ends.{Replaces}
 use Rattle.gm_member.specs.Shown.{When, held_of, LooksBy, MovesTo, SendsOn, StaysOn}
 use Rattle.ring_parties.specs.Ends.{OutSeen, opened_out, fresh_in}
-use Rattle.ring_parties.specs.Parties.{ANode, content, out_seen, in_seen, named_out, Shown, shown_of}
+use Rattle.ring_parties.specs.Parties.{ANode, content, amounts, out_seen, in_seen, named_out, Shown, shown_of}
 use Rattle.ring_parties.specs.Acting.{IsReady, Looks, Replacing, looked_ends, kept_end, beside, first_sent, sent_of, ActsOut}
 use Rattle.ring_parties.specs.Looking.{first_of, to_deposit, tidied}
 use Rattle.ring_parties.proofs.lists.Lists.{some_injective}
@@ -63,8 +64,8 @@ opened_seen : (initial : ℕ) (k : PacketSeen) (o e : RingOut Load) (n : RingIn 
 opened_seen initial k o e n f p =
     let known : (known_items n.items ≡ []) × (known_items o.back ≡ []) = fresh_known initial o n f in
     let put : map content (sent e.items) ≡ Some (sent_of (packet_by_id k)) ∷ [] = ap (map content) p.1 ∙ ap (λ xs. map content (xs ++ as_item k ∷ [])) f.items.0 in
-    let gained : got e.back ≡ [] = ap (λ b. got b) p.3 ∙ f.grants.1 in
-    let back : known_items e.back ≡ [] = ap (λ b. known_items b) p.3 ∙ known.1 in
+    let gained : amounts (got e.back) ≡ [] = ap (λ b. amounts (got b)) p.3 ∙ ap amounts f.grants.1 in
+    let back : amounts (known_items e.back) ≡ [] = ap (λ b. amounts (known_items b)) p.3 ∙ ap amounts known.1 in
     let size : e.initial ≡ initial = p.4 ∙ f.initial in
     let many : length (known_items n.items) ≡ 0 = ap length known.0 in
     let free : known_free e.items ≡ initial = omega (arith, p.2, f.met.free, f.initial, many) in
@@ -73,28 +74,28 @@ opened_seen initial k o e n f p =
     cc
 
 -- the out end of the old one
-ended_seen : (o p : RingOut Load) → RingPuts o (item.End Moved) p → ActsOut (None ∷ []) [] true (out_seen o) (out_seen p)
-ended_seen o p g = record {
-  put = ap (map content) g.1 ∙ map-append content (sent o.items) (item.End Moved ∷ []);
-  gained = ap (λ b. got b) g.3 ∙ sym (append-nil (got o.back));
-  back = ap (λ b. known_items b) g.3;
+ended_seen : (o p : RingOut Load) (stamp : Stamp) → RingPuts o (item.End Moved stamp) p → ActsOut (None ∷ []) [] true (out_seen o) (out_seen p)
+ended_seen o p stamp g = record {
+  put = ap (map content) g.1 ∙ map-append content (sent o.items) (item.End Moved stamp ∷ []);
+  gained = ap (λ b. amounts (got b)) g.3 ∙ sym (append-nil (amounts (got o.back)));
+  back = ap (λ b. amounts (known_items b)) g.3;
   initial = g.4;
   ring = pair_out o p g.0 (out_back_same o p g.3);
   ended = g.5;
 }
 
 -- one that is replaced
-replacing_one : (x : ℕ) (l : OutLink (RingOut Load)) (old old' : List (LinkName × RingOut Load)) (o p q : RingOut Load) → map named_out old ≡ [] → l.end ≡ Some o → q ≡ p → RingPuts o (item.End Moved) p → old' ≡ old ++ (ring_link x l.to.0 l.opened, q) ∷ []
+replacing_one : (x : ℕ) (l : OutLink (RingOut Load)) (old old' : List (LinkName × RingOut Load)) (o p q : RingOut Load) (stamp : Stamp) → map named_out old ≡ [] → l.end ≡ Some o → q ≡ p → RingPuts o (item.End Moved stamp) p → old' ≡ old ++ (ring_link x l.to.0 l.opened, q) ∷ []
     → Replacing x (Some (out_of l)) (option_map out_seen l.end) (first_of (map named_out old'))
-replacing_one x l old old' o p q none at new puts is =
+replacing_one x l old old' o p q stamp none at new puts is =
     let first : map named_out old' ≡ (ring_link x l.to.0 l.opened, out_seen q) ∷ [] =
     ap (map named_out) is ∙ map-append named_out old ((ring_link x l.to.0 l.opened, q) ∷ []) ∙ ap (λ xs. xs ++ (ring_link x l.to.0 l.opened, out_seen q) ∷ []) none in
     subst (λ e. Replacing x (Some (out_of l)) (option_map out_seen e) (first_of (map named_out old'))) (sym at)
-    (out_seen p, ended_seen o p puts, ap first_of first ∙ ap (λ k. Some (ring_link x l.to.0 l.opened, out_seen k)) new)
+    (out_seen p, ended_seen o p stamp puts, ap first_of first ∙ ap (λ k. Some (ring_link x l.to.0 l.opened, out_seen k)) new)
 
 replacing : (x : ℕ) (l : Option (OutLink (RingOut Load))) (old old' : List (LinkName × RingOut Load)) → map named_out old ≡ [] → Replaces RingPuts x l old old' → Replacing x (option_map out_of l) (option_map out_seen (at_some l None (λ k. k.end))) (first_of (map named_out old'))
 replacing x None old old' none r = ap first_of (ap (map named_out) r ∙ none)
-replacing x (Some l) old old' none (q, (o, p, at, is, puts), old_is) = replacing_one x l old old' o p q none at (some_injective q p is) puts old_is
+replacing x (Some l) old old' none (q, stamp, (o, p, at, is, puts), old_is) = replacing_one x l old old' o p q stamp none at (some_injective q p is) puts old_is
 
 -- ---- the member
 

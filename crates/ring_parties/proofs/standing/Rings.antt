@@ -1,7 +1,8 @@
 -- Which rings an end belongs to stays with it, and two ends of one link may meet.
-use Rattle.std.proofs.Common.{◌≡◌, ℕ, false, ◌+◌, [], ◌++◌, map, length, None, sym, ap, ◌∙◌, arith}
+use Rattle.std.proofs.Common.{◌≡◌, ℕ, false, ◌+◌, [], ◌++◌, map, length, Option, Some, None, refl, sym, ap, ◌∙◌, arith}
 use Rattle.std.proofs.lemmas.List.{map-append, length-map}
 use Rattle.rtrb.specs.Ring.{sent, received as got, known_items, known_free, producer_capacity, SameProducer, SameConsumer}
+use Rattle.ordered_link.specs.declared.grant.Grant.{Grant}
 use Rattle.ordered_link.specs.declared.ring.RingOut.{RingOut}
 use Rattle.ordered_link.specs.declared.ring.RingIn.{RingIn}
 use Rattle.ordered_link.specs.RingSteps.{AreRingEnds, RingMeets, IsFreshRingPair}
@@ -9,7 +10,7 @@ use Rattle.ordered_link.specs.Names.{out_pair, in_pair}
 use Rattle.ordered_link.proofs.Rings.{named_ends, ends_named}
 use Rattle.activity.specs.declared.packet.Load.{Load}
 use Rattle.ring_parties.specs.Ends.{Fits, Meets, fresh_out, fresh_in}
-use Rattle.ring_parties.specs.Parties.{content, out_seen, in_seen}
+use Rattle.ring_parties.specs.Parties.{content, amounts, amount_of, out_seen, in_seen}
 use Rattle.ring_parties.proofs.lists.Grants.{nothing_sent}
 
 -- ---- an end keeps its rings
@@ -34,6 +35,13 @@ out_back_same o p e = ((ap (λ x. x.end.words) e, ap (λ x. x.end.slots) e, ap (
 pub in_items_same : (i j : RingIn Load) → j.items ≡ i.items → SameConsumer i.items j.items
 in_items_same i j e = ((ap (λ x. x.end.words) e, ap (λ x. x.end.slots) e, ap (λ x. x.end.names) e, ap (λ x. x.end.heap) e), ap (λ x. x.capacity) e)
 
+-- ---- grants
+
+-- none waits where none is seen to
+pub none_waiting : (g : Option Grant) → amount_of g ≡ None → g ≡ None
+none_waiting None e = refl
+none_waiting (Some g) e = cc
+
 -- ---- two ends meet
 
 pub fits_ends : (o : RingOut Load) (i : RingIn Load) → Fits (out_seen o) (in_seen i) → AreRingEnds o i
@@ -43,14 +51,14 @@ pub meets_seen : (o o' : RingOut Load) (i i' : RingIn Load) → RingMeets o i o'
 meets_seen o o' i i' m = record {
   met = record {
     items = sym (map-append content (got i'.items) (known_items i'.items)) ∙ ap (map content) m.met.items;
-    grants = m.met.grants;
+    grants = sym (map-append (λ (g : Grant). g.amount) (got o'.back) (known_items o'.back)) ∙ ap amounts m.met.grants;
     free = (let many : length (map content (known_items i'.items)) ≡ length (known_items i'.items) = length-map (known_items i'.items) content in omega (arith, many, m.met.free));
-    room = m.met.room;
+    room = (let many : length (amounts (known_items o'.back)) ≡ length (known_items o'.back) = length-map (known_items o'.back) (λ (g : Grant). g.amount) in omega (arith, many, m.met.room));
   };
   put = ap (map content) m.out.2;
-  gained = m.out.3;
+  gained = ap amounts m.out.3;
   taken = ap (map content) m.link.1;
-  given = λ none. (let s = nothing_sent (sent i.back) (sent i'.back) i.late i'.late none m.link.3 in (s.1, s.0));
+  given = λ none. (let s = nothing_sent (sent i.back) (sent i'.back) i.late i'.late (none_waiting i.late none) m.link.3 in (ap amount_of s.1, ap amounts s.0));
   ended = m.out.4;
   out_initial = m.out.5;
   in_initial = m.link.4;
@@ -77,8 +85,8 @@ fresh_seen initial o n f =
     let k : (known_items n.items ≡ []) × (known_items o.back ≡ []) = fresh_known initial o n f in
     let taken : map content (got n.items) ≡ [] = ap (map content) f.items.1 in
     let items : map content (known_items n.items) ≡ [] = ap (map content) k.0 in
-    let given : sent n.back ≡ [] = f.grants.0 in
-    let late : n.late ≡ None = f.grants.2 in
+    let given : amounts (sent n.back) ≡ [] = ap amounts f.grants.0 in
+    let late : amount_of n.late ≡ None = ap amount_of f.grants.2 in
     let size : n.initial ≡ initial = f.ends.initial ∙ f.initial in
     let many : length (known_items o.back) ≡ 0 = ap length k.1 in
     let free : known_free n.back ≡ initial = omega (arith, f.met.room, many, size) in
@@ -90,8 +98,8 @@ pub fresh_out_seen : (initial : ℕ) (o : RingOut Load) (n : RingIn Load) → Is
 fresh_out_seen initial o n f =
     let k : (known_items n.items ≡ []) × (known_items o.back ≡ []) = fresh_known initial o n f in
     let put : map content (sent o.items) ≡ [] = ap (map content) f.items.0 in
-    let gained : got o.back ≡ [] = f.grants.1 in
-    let back : known_items o.back ≡ [] = k.1 in
+    let gained : amounts (got o.back) ≡ [] = ap amounts f.grants.1 in
+    let back : amounts (known_items o.back) ≡ [] = ap amounts k.1 in
     let size : o.initial ≡ initial = f.initial in
     let many : length (known_items n.items) ≡ 0 = ap length k.0 in
     let free : known_free o.items ≡ initial + 1 = omega (arith, f.met.free, many, size) in

@@ -2,6 +2,8 @@
 use Rattle.std.proofs.Common.{◌≡◌, ℕ, ◌<◌, ◌≤◌, Bool, true, false, List, [], ◌∷◌, map, length, get_or, Option, Some, None, refl, sym, ap, subst, ◌∙◌, ⊎_elim, arith}
 use Rattle.std.specs.Prelude.{◌⊎◌, MatchOption, ⊤, option_map}
 use Rattle.std.proofs.lemmas.List.{map-append, get_or-map, length-map, append-nil}
+use Rattle.ring_names.specs.declared.numbers.Stamp.{Stamp}
+use Rattle.ordered_link.specs.declared.grant.Grant.{Grant}
 use Rattle.ring_names.specs.declared.reason.Reason.{Reason}
 use Rattle.ring_names.specs.declared.reason.Reason.TheVariants.{Stopped, Waiting, AwaitingAnswer, NoOutLink, LinkFull, NoGrant}
 use Rattle.ring_rules.specs.declared.phase.Phase.{Phase}
@@ -30,7 +32,7 @@ use Rattle.gm_member.specs.declared.fault.MemberFault.{MemberFault}
 use Rattle.gm_member.specs.declared.fault.MemberFault.TheVariants as faults
 use Rattle.gm_member.specs.Shown.{held_of, ends_of, PutsOn, LooksOut, NoGrantBack, KeepsGrant, PicksOn}
 use Rattle.ring_parties.specs.Ends.{OutSeen, InSeen}
-use Rattle.ring_parties.specs.Parties.{ANode, content, out_seen, in_seen, named_out, named_in, ends_seen, EndsSeen, Shown, shown_of}
+use Rattle.ring_parties.specs.Parties.{ANode, content, amounts, out_seen, in_seen, named_out, named_in, ends_seen, EndsSeen, Shown, shown_of}
 use Rattle.ring_parties.specs.Acting.{IsReady, PutsPacket, Gains, Picks, sent_of, grant_refused, back_of, ActsOut}
 
 -- ---- what is seen of a member, part by part
@@ -51,7 +53,7 @@ shown_same a b e1 e2 = ap (λ x. record b { held = x }) e1 ∙ ap (λ x. record 
 abbrev pub end_there : Option (OutLink (RingOut Load)) → Option (RingOut Load)
 end_there l = at_some l None (λ x. x.end)
 
-abbrev pub returned_there : Option (OutLink (RingOut Load)) → Option ℕ
+abbrev pub returned_there : Option (OutLink (RingOut Load)) → Option Grant
 returned_there l = at_some l None (λ x. x.returned)
 
 -- what the end of a link to a member shows
@@ -63,15 +65,15 @@ in_there l = option_map in_seen (at_some l None (λ x. x.end))
 shown_put : (o p : RingOut Load) (k : PacketSeen) → RingPuts o (as_item k) p → ActsOut (Some (sent_of (packet_by_id k)) ∷ []) [] false (out_seen o) (out_seen p)
 shown_put o p k e = record {
   put = ap (map content) e.1 ∙ map-append content (sent o.items) (as_item k ∷ []);
-  gained = ap (λ v. got v) e.3 ∙ sym (append-nil (got o.back));
-  back = ap (λ v. known_items v) e.3;
+  gained = ap (λ v. amounts (got v)) e.3 ∙ sym (append-nil (amounts (got o.back)));
+  back = ap (λ v. amounts (known_items v)) e.3;
   initial = e.4;
   ring = pair_out o p e.0 (out_back_same o p e.3);
   ended = e.5;
 }
 
-pub puts_shown : (m n : ANode) → PutsOn RingPuts m n → held_of n ≡ put_held (held_of m) → PutsPacket (shown_of m) (shown_of n)
-puts_shown m n (l, l', ml, nl', (k, said, (o, p, lo, lp, puts)), kept, (current, door, old_outs, old_ins)) held = (
+pub puts_shown : (m n : ANode) (stamp : Stamp) → PutsOn RingPuts stamp m n → held_of n ≡ put_held (held_of m) → PutsPacket (shown_of m) (shown_of n)
+puts_shown m n stamp (l, l', ml, nl', (k, said, (o, p, lo, lp, puts), stamped), kept, (current, door, old_outs, old_ins)) held = (
   out_of l,
   out_seen o,
   out_seen p,
@@ -148,7 +150,7 @@ put_fault m n fault r is ready looks why = ⊎_elim
 -- ---- a grant
 
 -- the grants that an end knows to have come back
-abbrev grants : RingOut Load → List ℕ
+abbrev grants : RingOut Load → List Grant
 grants e = known_items e.back
 
 grant_by : (b1 b2 b3 : Bool) (o : Option Outgoing) (later : Option Reason) (r : Reason) → or_else (refuse_if b1 Stopped) (or_else (refuse_if b2 Waiting) (or_else (refuse_if b3 AwaitingAnswer) (on_some o NoOutLink (λ _. None)))) ≡ Some r → or_else (refuse_if b1 Stopped) (or_else (refuse_if b2 Waiting) (or_else (refuse_if b3 AwaitingAnswer) (on_some o NoOutLink (λ _. later)))) ≡ Some r
@@ -174,7 +176,7 @@ later_grant m e = grant_later_by (is_stopped m.phase) (is_waiting m.phase) m.ask
 -- none has come back
 none_back_end : (e : Option (RingOut Load)) → MatchOption e ⊤ (λ o. grants o ≡ []) → refuse_if (is_empty (back_of (option_map out_seen e))) NoGrant ≡ Some NoGrant
 none_back_end None h = refl
-none_back_end (Some o) h = ap (λ gs. refuse_if (is_empty gs) NoGrant) h
+none_back_end (Some o) h = ap (λ gs. refuse_if (is_empty (amounts gs)) NoGrant) h
 
 none_back : (l : Option (OutLink (RingOut Load))) → MatchOption l ⊤ (λ x. (x.returned ≡ None) × MatchOption x.end ⊤ (λ o. grants o ≡ [])) → refuse_if (is_empty (back_of (option_map out_seen (end_there l)))) NoGrant ≡ Some NoGrant
 none_back None h = refl
@@ -192,30 +194,30 @@ gain_refusal m n r looks why = ⊎_elim
     why
 
 -- the grant is gone from the end
-shown_gain : (o p : RingOut Load) (amount : ℕ) → RingGains o amount p → ActsOut [] (amount ∷ []) o.ended (out_seen o) (out_seen p)
-shown_gain o p amount e = record {
+shown_gain : (o p : RingOut Load) (grant : Grant) → RingGains o grant p → ActsOut [] (grant.amount ∷ []) o.ended (out_seen o) (out_seen p)
+shown_gain o p grant e = record {
   put = ap (λ v. map content (sent v)) e.0 ∙ sym (append-nil (map content (sent o.items)));
-  gained = e.2;
-  back = sym e.3;
+  gained = ap amounts e.2 ∙ map-append (λ (g : Grant). g.amount) (got o.back) (grant ∷ []);
+  back = sym (ap amounts e.3);
   initial = e.4;
   ring = pair_out o p (out_items_same o p e.0) e.1;
   ended = e.5;
 }
 
 -- m looked and is n, which keeps the grant as p, which gained it as q
-pub gain_shown : (m n p q : ANode) (amount : ℕ) → IsReady (shown_of m) → LooksOut (λ a b. b ≡ a) m n → KeepsGrant RingGains amount n p → held_of n ≡ held_of m → held_of p ≡ held_of n → held_of q ≡ gained_held (held_of p) amount → ends_of q ≡ record (ends_of p) { returned = None } → Gains (shown_of m) (shown_of q)
-gain_shown m n p q amount ready looks ((current, door, old_outs, old_ins), l, l', nl, pl, kept, how) hn hp hq ends =
+pub gain_shown : (m n p q : ANode) (grant : Grant) → IsReady (shown_of m) → LooksOut (λ a b. b ≡ a) m n → KeepsGrant RingGains grant n p → held_of n ≡ held_of m → held_of p ≡ held_of n → held_of q ≡ gained_held (held_of p) grant.amount → ends_of q ≡ record (ends_of p) { returned = None } → Gains (shown_of m) (shown_of q)
+gain_shown m n p q grant ready looks ((current, door, old_outs, old_ins), l, l', nl, pl, kept, how) hn hp hq ends =
     let e : (end_there n.out ≡ end_there m.out) × (returned_there n.out ≡ returned_there m.out) = same_out m n looks in
     let none : l.returned ≡ None = sym (ap returned_there nl) ∙ e.1 ∙ ready.returned in
     ⊎_elim
-    (λ (x : (l.returned ≡ Some amount) × (l'.end ≡ l.end)). absurd (cc (x.0, none)))
-    (λ (x : (l.returned ≡ None) × (o : RingOut Load) × (r : RingOut Load) × (l.end ≡ Some o) × (l'.end ≡ Some r) × RingGains o amount r). (
-      amount,
+    (λ (x : (l.returned ≡ Some grant) × (l'.end ≡ l.end)). absurd (cc (x.0, none)))
+    (λ (x : (l.returned ≡ None) × (o : RingOut Load) × (r : RingOut Load) × (l.end ≡ Some o) × (l'.end ≡ Some r) × RingGains o grant r). (
+      grant.amount,
       out_seen x.1,
       out_seen x.2,
       ap (option_map out_seen) (sym e.0 ∙ ap end_there nl ∙ x.3),
-      shown_gain x.1 x.2 amount x.5,
-      shown_same (record { held = gained_held (held_of m) amount; ends = record (ends_seen (ends_of m)) { out = Some (out_seen x.2) } }) (shown_of q) (hq ∙ ap (λ h. gained_held h amount) (hp ∙ hn))
+      shown_gain x.1 x.2 grant x.5,
+      shown_same (record { held = gained_held (held_of m) grant.amount; ends = record (ends_seen (ends_of m)) { out = Some (out_seen x.2) } }) (shown_of q) (hq ∙ ap (λ h. gained_held h grant.amount) (hp ∙ hn))
           (ap ends_seen ends ∙ ends_same (record (ends_seen (ends_of m)) { out = Some (out_seen x.2) }) (ends_seen (record (ends_of p) { returned = None }))
           (ap (option_map out_seen) (ap end_there pl ∙ x.4)) (sym ready.returned)
           (ap in_there (current ∙ looks.0.0)) (ap (λ v. map (option_map in_seen) (map end_of v.items)) (door ∙ looks.0.1)) (ap (λ v. map named_out v.items) (old_outs ∙ looks.0.2)) (ap (λ v. map named_in v.items) (old_ins ∙ looks.0.3))),

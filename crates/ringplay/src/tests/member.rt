@@ -3,18 +3,20 @@
 //! the dead. In each further line a word says what the member does or what is read of it, and behind the arrow stands
 //! what is wanted to be seen then; no arrow stands where a call is only done, or a refusal isn't there. Only the first
 //! of them may want the end on which the member sends. Want of memory ends a test with that error.
-ghost use Rattle.std.specs.Prelude.{◌≡◌, true, IfOk};
+ghost use Rattle.std.specs.Prelude.{◌≡◌, ◌<◌, true, false, IfOk, OnOk};
 ghost use Rattle.group_view.specs.Ring.{is_in};
 ghost use Rattle.ring_rules.specs.View.{ids};
-ghost use Rattle.gm_member.specs.Shown.{held_of, OutIsBack, InIsReady};
+ghost use Rattle.ring_names.specs.declared.numbers.Stamp.{Stamp as AStamp};
+ghost use Rattle.lamport_merge.specs.Recorder.{is_used_up, is_late};
+ghost use Rattle.gm_member.specs.Shown.{held_of, recorded_of, spare_of, OutIsBack, InIsReady};
 ghost use Rattle.gm_member.specs.Questions.{OfView};
 
 use activity::Load;
 use gm_member::{Ask, Member, MemberFault};
 use group_view::{Answer, Deposited, LinkKind, Request, View, are_opening_names};
-use ordered_link::{PlainIn, PlainOut, plain_pair};
+use ordered_link::{Grant, PlainIn, PlainOut, plain_pair};
 use queue_core::Message;
-use ring_names::{Body, CreditSpec, Items, MemberId, Name, OutOfMemory, Reason};
+use ring_names::{Body, CreditSpec, Items, MemberId, Name, OutOfMemory, Reason, Stamp};
 use std::alloc::Global;
 use std::fmt::Debug;
 use std::process::Abort;
@@ -39,6 +41,7 @@ confirmed -> 0
 put_refusal -> refused 16 NothingNew
 pick -> refused 43 HasCurrentLink
 publish hi -> 1
+entries -> 1
 put_refusal
 keeps 1 -> Some((0, 1))
 confirmed -> 0
@@ -52,8 +55,10 @@ put -> refused 16 NothingNew
 
 stops once: 1 of a
 stop
+entries -> 1
 phase -> Stopped
 gain -> refused 12 Stopped
+entries -> 0
 pick -> refused 12 Stopped
 put_refusal -> refused 12 Stopped
 
@@ -318,14 +323,72 @@ fn be_answered(rt: &impl Abort, alloc: Global, node: &mut Node, line: &str) -> R
     settle(alloc, node, question(what)?, Answer::Viewed(view))
 }
 
+/// The member is alone in a round, and has room to record what it does next.
+fn be_alone(node: &mut Node) -> Result<(), Fail>
+    ensures lasts { OnOk result (is_used_up (recorded_of node.new) ≡ false) }
+    ensures early { OnOk result ((stamp : AStamp) → is_late (recorded_of node.new) stamp ≡ false) }
+    ensures room { OnOk result (0 < spare_of node.new) }
+    ensures out { OutIsBack node.old → OutIsBack node.new }
+    ensures link { InIsReady node.old → InIsReady node.new }
+{
+    node.begin(1, true, 1)?;
+    Ok(())
+}
+
+/// The member puts a packet.
+fn put(alloc: Global, node: &mut Node) -> Result<String, Fail>
+    requires { OutIsBack node.old }
+{
+    be_alone(node)?;
+    told(alloc, node.put())
+}
+
+/// The member stops.
+fn stop(alloc: Global, node: &mut Node) -> Result<String, Fail>
+    requires { OutIsBack node.old }
+{
+    be_alone(node)?;
+    told(alloc, node.stop())
+}
+
+/// The member takes a packet.
+fn take(alloc: Global, node: &mut Node) -> Result<String, Fail>
+    requires { InIsReady node.old }
+{
+    be_alone(node)?;
+    told(alloc, node.take())
+}
+
+/// The member gains the credit of one packet.
+fn gain(alloc: Global, node: &mut Node) -> Result<String, Fail> {
+    be_alone(node)?;
+    let stamp = Stamp {
+        round: 1,
+        time: 0,
+        party: 2,
+    };
+    told(alloc, node.gain(Grant { amount: 1, stamp }))
+}
+
+/// The member picks a link.
+fn pick(alloc: Global, node: &mut Node) -> Result<String, Fail> {
+    be_alone(node)?;
+    told(alloc, node.pick())
+}
+
+/// How many entries its log has.
+fn entries(node: &Node) -> usize {
+    node.local_log().entries().len()
+}
+
 /// What is seen of the first line of a member.
 fn begin(rt: &impl Abort, alloc: Global, node: &mut Node, line: &str) -> Result<String, Fail>
     requires { OutIsBack node.old }
 {
     match first_word(line) {
         ("gain_refusal", _) => refusal(alloc, node.gain_refusal()),
-        ("put", _) => told(alloc, node.put()),
-        ("stop", _) => told(alloc, node.stop()),
+        ("put", _) => put(alloc, node),
+        ("stop", _) => stop(alloc, node),
         ("refresh", dead) => refresh(rt, alloc, node, dead),
         ("viewed", line) => be_answered(rt, alloc, node, line),
         ("admitted", newcomer) => have_admitted(alloc, node, newcomer),
@@ -336,6 +399,7 @@ fn begin(rt: &impl Abort, alloc: Global, node: &mut Node, line: &str) -> Result<
 /// The member multicasts this text.
 fn cast(alloc: Global, node: &mut Node, text: &str) -> Result<String, Fail> {
     let body = Body::read(alloc, text.as_bytes())?;
+    be_alone(node)?;
     match node.publish(Message::Cast(body)) {
         Ok(number) => seen(alloc, &number),
         Err((_, fault)) => told(alloc, Err::<u64, MemberFault>(fault)),
@@ -400,8 +464,8 @@ fn lend_and_give(node: &mut Node) -> bool {
 fn show(rt: &impl Abort, alloc: Global, node: &mut Node, line: &str) -> Result<String, Fail> {
     match first_word(line) {
         ("publish", text) => cast(alloc, node, text),
-        ("gain", _) => told(alloc, node.gain(1)),
-        ("pick", _) => told(alloc, node.pick()),
+        ("gain", _) => gain(alloc, node),
+        ("pick", _) => pick(alloc, node),
         ("make_room", links) => make_room(alloc, node, links),
         ("ask", what) => told(alloc, node.ask(question(what)?)),
         ("denied", what) => be_denied(alloc, node, what),
@@ -441,6 +505,8 @@ fn read(alloc: Global, node: &Node, what: &str, rest: &str) -> Result<String, Fa
         // The numbers up to which it has forgotten the messages of that member, and has them.
         "keeps" => seen(alloc, &keeps(node, id_of(rest)?)),
         "confirmed" => seen(alloc, &node.confirmed()),
+        // What it did in its round: how many entries its log has.
+        "entries" => seen(alloc, &entries(node)),
         _ => Err(Fail::new("no such line")),
     }
 }
@@ -471,7 +537,7 @@ fn enter(rt: &impl Abort, alloc: Global, node: &mut Node, line: &str) -> Result<
     requires { InIsReady node.old }
 {
     match first_word(line) {
-        ("take", _) => told(alloc, node.take()),
+        ("take", _) => take(alloc, node),
         _ => show(rt, alloc, node, line),
     }
 }

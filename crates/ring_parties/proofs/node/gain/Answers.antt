@@ -14,6 +14,6 @@ returns-in-Some c =
 pub returns : goal.returns
 returns c = record {
   judged = search rules;
-  ok = gain_shown c.args.node.now c.gain_refusal.new.self c.granted.new.self c.gain.new.self c.in-Some-granted.amount c.requires c.gain_refusal.ensures.looks c.in-Some-granted.ensures.some c.gain_refusal.ensures.held c.granted.ensures.held c.in-Ok.ensures.acts.ok c.in-Ok.ensures.acts.ends;
+  ok = gain_shown c.args.node.now c.gain_refusal.new.self c.granted.new.self c.gain.new.self c.in-Some-granted.grant c.requires.ready c.gain_refusal.ensures.looks c.in-Some-granted.ensures.some c.gain_refusal.ensures.held c.granted.ensures.held c.in-Ok.ensures.acts.ok c.in-Ok.ensures.acts.ends;
   err = search rules;
 }

@@ -25,7 +25,7 @@ pub returns-in-Err-clause-there : goal.returns-in-Err-clause-there
 returns-in-Err-clause-there g c = room_below c.args.tables.now c.args.self.now.sent c.make_room.new.self c.make_room.ensures.kept c.requires.there
 
 pub returns-clause-packet : goal.returns-clause-packet
-returns-clause-packet g c = (c.in_ok-packet.packet, c.in_ok-packet.ensures.said, (c.in-Some.end, c.put.new.self, c.in-Some.is, refl, c.in-Ok.ensures.ok))
+returns-clause-packet g c = (c.in_ok-packet.packet, c.in_ok-packet.ensures.said, (c.in-Some.end, c.put.new.self, c.in-Some.is, refl, c.in-Ok.ensures.ok), c.in_ok-packet.ensures.stamped)
 
 pub returns-clause-ok : goal.returns-clause-ok
 returns-clause-ok g c =

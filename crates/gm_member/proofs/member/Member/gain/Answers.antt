@@ -13,7 +13,7 @@ use Rattle.gm_member.proofs.member.Member.gain.Goals as goal
 
 pub returns-clause-steps : goal.returns-clause-steps
 returns-clause-steps g c =
-    let amount = c.args.amount in
+    let amount = c.args.grant.amount in
     on_ok_both c.regain.result
     (steps_where (λ k. gain_refused k ≡ None) (λ w x. IsNextGrant w x amount) Gain (λ k. gained_held k amount) (λ w x f a b. gain_steps w x amount f a b) (held_of c.args.self.now) (held_of c.regain.new.self))
     c.regain.ensures.heeds.enabled c.regain.ensures.acts.ok

@@ -1,4 +1,6 @@
-use Rattle.std.proofs.Common.{refl, ap, ◌∙◌}
+use Rattle.std.proofs.Common.{refl, ap, ◌∙◌, arith}
+use Rattle.lamport_merge.specs.Recorder.{noted_some}
+use Rattle.gm_member.specs.Said.{event_saying}
 use Rattle.gm_member.specs.View.{last_sent_on}
 use Rattle.gm_member.specs.Spares.{last_sent_by_spare}
 use Rattle.gm_member.specs.Shown.{held_of}
@@ -38,4 +40,12 @@ returns-clause-publishes g c =
       err = tt;
       ends = refl;
       kept = tt;
+      records = record {
+        ok =
+            c.note_some.ensures.noted
+            ∙ ap (λ e. noted_some e c.make_room.new.self.recorded) c.in-Ok.ensures
+            ∙ ap (noted_some (event_saying m.name c.args.message)) c.make_room.ensures.same;
+        err = tt;
+        spare = omega (arith, c.in-Ok-make_room.ensures.room, c.note_some.ensures.room);
+      };
     }

@@ -12,8 +12,8 @@ use Rattle.gm_member.proofs.Refusals.{put_refusal_is}
 use Rattle.gm_member.proofs.Ready.{is_ready}
 use Rattle.gm_member.proofs.member.Member.put.Goals as goal
 
-pub put_next-requires : goal.put_next-requires
-put_next-requires g c = is_ready c.args.self.now c.requires
+pub put_next-requires-clause-ready : goal.put_next-requires-clause-ready
+put_next-requires-clause-ready g c = is_ready c.args.self.now c.requires.out
 
 -- who may put sends on a link, and the packet is the ring's
 put_out_lifts : (h : Held) → put_refused h ≡ None → (o : Outgoing) × (h.out ≡ Some o) × WhereItStands h (λ w x. IsPutPacket w x (packet_on h.view.version h.known o))

@@ -18,7 +18,7 @@ returns-clause-reads g c sound =
     keeps_ready g.O.LinkPair.are_fresh g.O.LinkOut.free g.O.LinkOut.ended c.be_ready.new.self n (keeps_same c.be_ready.new.self n k outs e) (c.in-Ok.ensures.ready sound) in
     record {
       ok =
-          c.read.ensures.held (ready _ (refl, refl, refl) (refl, refl) refl)
+          c.read.ensures.held (ready _ (refl, refl, refl, refl) (refl, refl) refl)
           ∙ ap (λ (h : Held). record (looked_held (answered_held h) c.args.view) { out = Some (first_out (looked_held h c.args.view) c.right-to.result.0) }) c.be_ready.ensures.held
           ∙ refreshed_moves (answered_held (held_of c.args.self.now)) c.args.view c.right-to.result.0 elsewhere c.right-to.ensures;
       links = search rules;
@@ -26,7 +26,7 @@ returns-clause-reads g c sound =
         c.right-to.result,
         c.right-to.ensures,
         sends_from g.O.LinkPair.are_fresh g.O.LinkOut.free g.O.LinkOut.ended g.O.LinkOut.puts c.args.view.version c.right-to.result c.args.self.now _ c.read.new.self c.read.result.items
-            same.0 same.1 same.2 c.be_ready.ensures.ends.0 c.be_ready.ensures.ends.3 (c.read.ensures.sends (ready _ (refl, refl, refl) (refl, refl) refl)),
+            same.0 same.1 same.2 c.be_ready.ensures.ends.0 c.be_ready.ensures.ends.3 (c.read.ensures.sends (ready _ (refl, refl, refl, refl) (refl, refl) refl)),
       );
       err = tt;
       err_ends = tt;

@@ -35,11 +35,14 @@ returns g c =
             ∙ ap (λ b. cond b [] (news_below 64 (owns (held_of m) link.from.0) (held_of m).known (packet_by_id k).lines)) (sym c.requires.state)
             ∙ ap (λ o. at_some (option_map in_of o) [] (λ l. cond (is_waiting m.phase) [] (news_below 64 (owns (held_of m) l.from) (held_of m).known (packet_by_id k).lines))) (sym c.in-Some.is),
         (link, c.take.new.self, c.in-Some.is, refl, c.in_ok-news.ensures.took, (refl, refl, refl, refl)),
+        c.in_ok-news.ensures.noted,
       );
       fault = tt;
       err = tt;
       looks = tt;
       kept = tt;
+      unrecorded = tt;
+      spare = c.take.ensures.spare;
     }
 
 pub invariant_of-self : goal.invariant_of-self
@@ -94,4 +97,6 @@ returns-in_err-news g c =
       looks = on_err c.from_residual.result ((refl, refl, refl, refl), inr (link, c.take.new.self, c.in-Some.is, refl, c.in_err-news.ensures.looks));
       kept = on_err c.from_residual.result
           ((refl, refl, same, omega arith, omega arith), λ k r. (r.0, subst (λ o. vec_len m.old_ins + vec_len m.door + count_of o + k ≤ vec_capacity m.old_ins) c.in-Some.is r.1));
+      unrecorded = on_err c.from_residual.result c.in_err-news.ensures.unnoted;
+      spare = c.take.ensures.spare;
     }

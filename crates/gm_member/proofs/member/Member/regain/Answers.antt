@@ -16,6 +16,8 @@ pub returns-in-None-clause-acts : goal.returns-in-None-clause-acts
 returns-in-None-clause-acts g c = record {
   ok = tt;
   ends = tt;
+  recorded = tt;
+  spare = tt;
   fault = search rules;
   err = same_facts c.args.self.now _ _ _ _ _ _ _ _ _ _;
 }

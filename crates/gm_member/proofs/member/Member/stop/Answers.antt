@@ -9,8 +9,8 @@ use Rattle.gm_member.proofs.Refusals.{stop_refusal_is}
 use Rattle.gm_member.proofs.Ready.{is_ready}
 use Rattle.gm_member.proofs.member.Member.stop.Goals as goal
 
-pub stop_next-requires : goal.stop_next-requires
-stop_next-requires g c = is_ready c.args.self.now c.requires
+pub stop_next-requires-clause-ready : goal.stop_next-requires-clause-ready
+stop_next-requires-clause-ready g c = is_ready c.args.self.now c.requires.out
 
 pub returns-clause-steps : goal.returns-clause-steps
 returns-clause-steps g c = on_ok_both c.stop_next.result (steps_lift (λ k. active_refused k None ≡ None) Stop stopped_held stop_steps (held_of c.args.self.now) (held_of c.stop_next.new.self)) c.stop_next.ensures.heeds.enabled c.stop_next.ensures.acts.ok

@@ -25,7 +25,7 @@ returns-clause-opens g c = λ known s. record {
   end = c.put.new.self;
   there = refl;
   packet = (
-    record { stamp = c.packet.inside.stamp; view = c.args.version; first = c.packet.inside.first; lines = c.packet.inside.lines },
+    record { stamp = c.args.stamp; view = c.args.version; first = c.packet.inside.first; lines = c.packet.inside.lines },
     ap (λ (q : PacketSeen). packet_with c.args.version q.first (packet_by_id q).lines) c.packet.view_is
         ∙ ap (λ b. packet_with c.args.version b (packet_by_id c.args.self.packet).lines) s.first
         ∙ ap (packet_with c.args.version true) s.lines,

@@ -10,7 +10,7 @@ use Rattle.gm_member.proofs.Accepting.{all_filled}
 use Rattle.gm_member.proofs.Beginning.{silent_within, silent_unended, up_where}
 use Rattle.gm_member.proofs.AllIsSent.{silent_right}
 use Rattle.gm_member.proofs.Within.{none_within}
-use Rattle.gm_member.proofs.member.Member.begin.Goals as goal
+use Rattle.gm_member.proofs.member.Member.catch_up.Goals as goal
 
 pub returns : goal.returns
 returns g c =
@@ -29,11 +29,14 @@ returns g c =
             ∙ ap (λ b. cond b [] (news_below 64 (owns (held_of m) link.from.0) (held_of m).known (packet_by_id k).lines)) (sym c.requires.waits)
             ∙ ap (λ o. at_some (option_map in_of o) [] (λ l. cond (is_waiting m.phase) [] (news_below 64 (owns (held_of m) l.from) (held_of m).known (packet_by_id k).lines))) (sym c.in-Some.is),
         (link, c.begin.new.self, c.in-Some.is, refl, c.in_ok-tables.ensures.took, (refl, refl, refl, refl)),
+        c.in_ok-tables.ensures.noted,
       );
       fault = tt;
       err = tt;
       looks = tt;
       kept = tt;
+      unrecorded = tt;
+      spare = c.begin.ensures.spare;
     }
 
 pub invariant_of-self-2-clause-up : goal.invariant_of-self-2-clause-up

@@ -1,0 +1,5 @@
+use Rattle.ring_parties.proofs.rounds.Empty.{nobody_took, empty_closed}
+use Rattle.ring_parties.proofs.laws.an_empty_round_is_closed.Goals as goal
+
+pub returns : goal.returns
+returns c = λ initial w q ks h keeps. (nobody_took initial w q ks h keeps, empty_closed initial w q ks h keeps)
