@@ -21,6 +21,8 @@ pub struct Recorder {
     clock: Clock,
     alone: bool,
     log: LocalLog,
+    // For how many entries room is kept; the log may have more.
+    kept: usize,
 }
 
 impl Model for Recorder {
@@ -38,10 +40,10 @@ impl Model for Recorder {
         party = r.log.party;
         entries = r.log.entries;
       };
-      spare = r.log.spare;
+      spare = r.kept;
     } };
 
-    ghost invariant = { λ r. last_time 0 r.log.entries ≤ r.clock.time };
+    ghost invariant = { λ r. (last_time 0 r.log.entries ≤ r.clock.time) × (r.kept ≤ r.log.spare) };
 }
 
 impl Recorder {
@@ -54,6 +56,7 @@ impl Recorder {
             clock: Clock::new(),
             alone: true,
             log: LocalLog::new(alloc, party),
+            kept: 0,
         }
     }
 
@@ -68,6 +71,7 @@ impl Recorder {
         self.log.clear();
         self.clock.begin(round);
         self.alone = alone;
+        self.kept = entries as usize;
         Ok(())
     }
 
@@ -77,10 +81,11 @@ impl Recorder {
         ensures room { OnOk result ((self.old).spare + 1 ≤ (self.new).spare) }
         ensures err { OnErr result (self.new ≡ self.old) }
     {
-        let Some(entries) = self.log.spare().checked_add(1) else {
+        let Some(entries) = self.kept.checked_add(1) else {
             return Err(OutOfMemory);
         };
         self.log.reserve(entries)?;
+        self.kept = entries;
         Ok(())
     }
 
@@ -93,6 +98,7 @@ impl Recorder {
     {
         let time = self.clock.tick();
         self.log.push(time, event);
+        self.kept -= 1;
     }
 
     /// The party does this, where it does something: at the next time of its clock. It takes no memory.
@@ -150,7 +156,7 @@ impl Recorder {
     pub fn spare(&self) -> usize
         ensures { result ≡ (self.now).spare }
     {
-        self.log.spare()
+        self.kept
     }
 
     /// What the party did in this round.
