@@ -168,6 +168,7 @@ module _ {O I : Type 0} {g : Ghosts O Load} where
     pub ends : ends_of n ≡ e
     pub held : held_of n ≡ held_of m
     pub kept : StaysReady m n
+    pub recorder : n.recorder ≡ m.recorder
 
   -- This end is lent, where it is there, and these are the ends that the member then has.
   pub record Lends {A : Type 0} (end : Option A) (e : Ends O I) (m n : Member O I g) (result : Option A) : Type 0 where
@@ -175,6 +176,7 @@ module _ {O I : Type 0} {g : Ghosts O Load} where
     pub ends : ends_of n ≡ e
     pub held : held_of n ≡ held_of m
     pub kept : StaysReady m n
+    pub recorder : n.recorder ≡ m.recorder
 
   -- an end to the member comes back to a place
   abbrev pub GivesIn : ℕ → I → Member O I g → Member O I g → Type 0
@@ -192,6 +194,7 @@ module _ {O I : Type 0} {g : Ghosts O Load} where
     pub ends : ends_of n ≡ e
     pub held : held_of n ≡ held_of m
     pub kept : StaysReady m n
+    pub recorder : n.recorder ≡ m.recorder
 
 -- This is the name of the link at a place: none exactly where no such link is there.
 pub record NamesIn (h : Held) (place : ℕ) (result : Option LinkName) : Type 0 where

@@ -9,7 +9,8 @@ use ring_names::{OutOfMemory, Stamp};
 use ring_rules::{Client, Event};
 
 impl<O: LinkPair<Load, In = I>, I: LinkIn<Load> + Drop> Member<O, I> {
-    ghost use Rattle.std.specs.Prelude.{◌≡◌, ◌≤◌, ◌^◌, ◌-◌, false, min, OnOk, OnErr, IfErr};
+    ghost use Rattle.std.specs.Prelude.{◌≡◌, ◌≤◌, ◌^◌, ◌-◌, [], false, min, OnOk, OnErr, IfErr};
+    ghost use Rattle.lamport_merge.specs.Logs.{log_of};
     ghost use Rattle.lamport_merge.specs.Recorder.{begun, noted, is_used_up, is_late as comes_late};
     ghost use Rattle.ring_rules.specs.declared.event.Event.TheVariants.{Refuse as TheRefusal};
     ghost use Rattle.gm_member.specs.Shown.{held_of, ends_of, recorded_of, spare_of, StaysReady};
@@ -57,6 +58,18 @@ impl<O: LinkPair<Load, In = I>, I: LinkIn<Load> + Drop> Member<O, I> {
         ensures entries { result.now.entries ≡ (recorded_of self.now).entries }
     {
         self.recorder.log()
+    }
+
+    /// Gives up what the member did in this round; nothing is recorded then, and there is no room. It takes no memory.
+    pub fn give_log(&mut self) -> LocalLog
+        ensures log { log_of result ≡ record { party = (recorded_of self.old).party; entries = (recorded_of self.old).entries } }
+        ensures rest { recorded_of self.new ≡ record (recorded_of self.old) { entries = [] } }
+        ensures held { held_of self.new ≡ held_of self.old }
+        ensures ends { ends_of self.new ≡ ends_of self.old }
+        ensures links { SameLinks self.old self.new }
+        ensures same { (self.new.phase ≡ self.old.phase) × (self.new.spare ≡ self.old.spare) }
+    {
+        self.recorder.give_log()
     }
 
     /// The member tells a client that what it asked isn't done, with the number of the refusal. The caller gives what

@@ -3,3 +3,4 @@ pub mod Nexts
 pub mod Rising
 pub mod Steps
 pub mod Recording
+pub mod Moves

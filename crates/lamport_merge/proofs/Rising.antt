@@ -1,5 +1,5 @@
 -- Times that rise, as entries come.
-use Rattle.std.proofs.Common.{◌≡◌, ℕ, ◌<◌, ◌-◌, suc, List, [], ◌∷◌, ◌++◌, length, get_or, ap, ◌∙◌, arith}
+use Rattle.std.proofs.Common.{◌≡◌, ℕ, ◌<◌, ◌-◌, zero, suc, List, [], ◌∷◌, ◌++◌, length, get_or, set, sym, ap, subst, ◌∙◌, arith}
 use Rattle.lamport_merge.specs.Merge.{Log, RiseAbove, last_time, PartiesDiffer, AreLogs}
 
 module _ {E : Type 0} where
@@ -19,3 +19,9 @@ module _ {E : Type 0} where
   pub are_differ : (logs : List (Log E)) → AreLogs logs → PartiesDiffer logs
   are_differ [] h = tt
   are_differ (l ∷ ls) h = (h.1, are_differ ls h.2)
+
+  -- something else happens at the time of an entry
+  pub rise_same : (low : ℕ) (es : List (ℕ × E)) (n : ℕ) (x y : ℕ × E) → x ≡ get_or es n x → y.0 ≡ x.0 → RiseAbove low es → RiseAbove low (set es n y)
+  rise_same low [] n x y is same h = tt
+  rise_same low (e ∷ es) zero x y is same h = subst (λ t. (low < t) × RiseAbove t es) (sym (same ∙ ap (λ (z : ℕ × E). z.0) is)) h
+  rise_same low (e ∷ es) (suc n) x y is same h = (h.0, rise_same e.0 es n x y is same h.1)

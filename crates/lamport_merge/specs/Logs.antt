@@ -33,3 +33,8 @@ logs_of ls = map log_of ls
 -- what is left of logs from these places on
 abbrev pub left_of : List LogSeen → List ℕ → List (Log Event)
 left_of ls places = rests (logs_of ls) places
+
+-- logs that are gathered, and for how many more there is room
+pub record GatheredSeen : Type 0 where
+  pub logs : List (Log Event)
+  pub room : ℕ

@@ -1,5 +1,5 @@
 //! The log of one party.
-ghost use Rattle.std.specs.Prelude.{◌≡◌, ◌<◌, ◌≤◌, OnOk, OnErr};
+ghost use Rattle.std.specs.Prelude.{◌≡◌, ◌<◌, ◌≤◌, ◌+◌, ◌∷◌, ℕ, drop, length, OnOk, OnErr};
 ghost use Rattle.lamport_merge.specs.Merge.{RiseAbove, last_time as last_time_in};
 ghost use Rattle.lamport_merge.specs.Logs.{new_log, emptied, with_entry, log_of};
 
@@ -7,6 +7,7 @@ use ring_names::OutOfMemory;
 use ring_rules::Event;
 use std::alloc::Global;
 use std::marker::Model;
+use std::mem;
 
 /// What a party did in a round, each event with the time of the party's clock. Times count from 1 and rise
 /// strictly.
@@ -104,5 +105,23 @@ impl LocalLog {
             Some(entry) => entry.0,
             None => 0,
         }
+    }
+
+    /// Takes the event of the entry at this place, which is there, and moves the place on. At its time some other event
+    /// stands there then. It takes no memory.
+    pub(crate) fn take_next(&mut self, next: &mut usize) -> Event
+        requires { next.old < length (self.old).entries }
+        ensures next { next.new ≡ next.old + 1 }
+        ensures event { (time : ℕ) × (drop next.old (self.old).entries ≡ (time, result) ∷ drop next.new (self.new).entries) }
+        ensures party { (self.new).party ≡ (self.old).party }
+    {
+        let entry = &mut self.entries[*next];
+        *next += 1;
+        let by = *entry.1.by();
+        mem::replace(&mut entry.1, Event::Put { by })
+    }
+
+    pub(crate) fn allocator(&self) -> Global {
+        *self.entries.allocator()
     }
 }

@@ -30,7 +30,7 @@ fn next_time(log: &LocalLog, next: usize) -> Option<u32>
 
 /// Of logs that are left from these places on, the place of the one whose first entry comes next, with the time and
 /// the party of that entry.
-fn first(logs: &[LocalLog], nexts: &[usize]) -> Option<(usize, u32, u32)>
+pub(crate) fn first(logs: &[LocalLog], nexts: &[usize]) -> Option<(usize, u32, u32)>
     requires same { length nexts.now ≡ length logs.now }
     requires parties { PartiesDiffer (left_of logs.now nexts.now) }
     ensures within { IfSome result (λ r. r.0 < length logs.now) }
@@ -63,7 +63,7 @@ fn first(logs: &[LocalLog], nexts: &[usize]) -> Option<(usize, u32, u32)>
 }
 
 /// The logs of different parties are those of a round, since the times of each rise. It only tells that.
-fn tell(logs: &[LocalLog])
+pub(crate) fn tell(logs: &[LocalLog])
     requires { PartiesDiffer (logs_of logs.now) }
     ensures { AreLogs (logs_of logs.now) }
 {

@@ -1,8 +1,9 @@
 //! What a party records of a round.
-ghost use Rattle.std.specs.Prelude.{◌≡◌, ◌+◌, ◌-◌, ◌<◌, ◌≤◌, false, cond, OnOk, OnErr};
+ghost use Rattle.std.specs.Prelude.{◌≡◌, ◌+◌, ◌-◌, ◌<◌, ◌≤◌, [], false, cond, OnOk, OnErr};
 ghost use Rattle.lamport_merge.specs.Recorder.{begun, nothing_recorded, met as meets, ticked, noted as notes, given};
 ghost use Rattle.lamport_merge.specs.Recorder.{noted_some as notes_some};
 ghost use Rattle.lamport_merge.specs.Recorder.{is_used_up, is_late as comes_late, time_in};
+ghost use Rattle.lamport_merge.specs.Logs.{log_of};
 
 use crate::clock::Clock;
 use crate::log::LocalLog;
@@ -10,6 +11,7 @@ use ring_names::{OutOfMemory, Stamp};
 use ring_rules::Event;
 use std::alloc::Global;
 use std::marker::Model;
+use std::mem;
 
 /// From this time on a stamp is met only in a later round.
 const LAST: u32 = 4_294_967_294;
@@ -165,6 +167,16 @@ impl Recorder {
         ensures entries { result.now.entries ≡ (self.now).recorded.entries }
     {
         &self.log
+    }
+
+    /// Gives up what the party did in this round; nothing is recorded then, and there is no room. It takes no memory.
+    pub fn give_log(&mut self) -> LocalLog
+        ensures log { log_of result ≡ record { party = (self.old).recorded.party; entries = (self.old).recorded.entries } }
+        ensures rest { (self.new).recorded ≡ record (self.old).recorded { entries = [] } }
+    {
+        let empty = LocalLog::new(self.log.allocator(), self.log.party());
+        self.kept = 0;
+        mem::replace(&mut self.log, empty)
     }
 
     /// The time of a stamp in this round.

@@ -87,8 +87,9 @@ impl<T> LinkOut<T> for RingOut<T> {
 }
 
 impl<T> RingOut<T> {
-    ghost use Rattle.std.specs.Prelude.{◌≡◌, ◌<◌, [], true, false, length};
+    ghost use Rattle.std.specs.Prelude.{◌≡◌, ◌<◌, ◌∷◌, [], true, false, length, List, MatchOption};
     ghost use Rattle.rtrb.specs.Ring.{known_items};
+    ghost use Rattle.ordered_link.specs.declared.grant.Grant.{Grant as Back};
     ghost use Rattle.ordered_link.specs.RingSteps.{RingLooked};
 
     /// Whether the end knows of a grant that has come back and was not taken yet.
@@ -97,6 +98,17 @@ impl<T> RingOut<T> {
         ensures none { result ≡ false → known_items (self.now).back ≡ [] }
     {
         self.back.cached_slots() > 0
+    }
+
+    /// The oldest grant that the end knows to have come back; it stays there.
+    pub fn first_back(&self) -> Option<Grant>
+        ensures { MatchOption result (known_items (self.now).back ≡ [])
+            (λ g. (rest : List Back) × (known_items (self.now).back ≡ g ∷ rest)) }
+    {
+        if self.back.cached_slots() == 0 {
+            return None;
+        }
+        Some(*self.back.peek_known())
     }
 
     /// Looks at the rings: more slots may be known to be free, and more grants to have come back.
@@ -109,7 +121,7 @@ impl<T> RingOut<T> {
 }
 
 impl<T> RingIn<T> {
-    ghost use Rattle.std.specs.Prelude.{◌≡◌, ◌<◌, ◌∷◌, [], None, List, MatchOption};
+    ghost use Rattle.std.specs.Prelude.{◌≡◌, ◌<◌, ◌∷◌, [], None, List, MatchOption, nat_lt};
     ghost use Rattle.rtrb.specs.Ring.{known_items, known_free};
     ghost use Rattle.ordered_link.specs.declared.item.Item.{Item as One};
     ghost use Rattle.ordered_link.specs.RingSteps.{RingSent, RingLookedIn};
@@ -123,6 +135,13 @@ impl<T> RingIn<T> {
             return None;
         }
         Some(self.items.peek_known())
+    }
+
+    /// Whether the end knows of a free slot on the way back.
+    pub fn has_room(&self) -> bool
+        ensures { result ≡ nat_lt 0 (known_free (self.now).back) }
+    {
+        self.back.cached_slots() > 0
     }
 
     /// Looks at the rings: more items may be known, and more slots of the way back to be free.

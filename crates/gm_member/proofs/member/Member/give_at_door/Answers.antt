@@ -14,4 +14,5 @@ returns g c =
       ends = ap (λ d. record (ends_of m) { door = d }) (mapped_write end_of (λ _. Some c.args.link) m.door.items c.args.place c.index_mut-waiting.result.now _ (Some c.args.link) l c.index_mut-waiting.ensures.value refl);
       held = ap (λ d. record (held_of m) { door = d }) (mapped_rewrite in_of m.door.items c.args.place c.index_mut-waiting.result.now _ l c.index_mut-waiting.ensures.value refl);
       kept = search rules;
+      recorder = refl;
     }

@@ -14,4 +14,5 @@ returns g c =
       ends = ap (λ d. record (ends_of m) { door = d }) (mapped_write end_of (λ _. None) m.door.items c.args.place c.index_mut-link.result.now _ None l c.index_mut-link.ensures.value c.take.ensures.after);
       held = ap (λ d. record (held_of m) { door = d }) (mapped_rewrite in_of m.door.items c.args.place c.index_mut-link.result.now _ l c.index_mut-link.ensures.value refl);
       kept = search rules;
+      recorder = refl;
     }
