@@ -2,7 +2,9 @@ pub mod events
 pub mod keeping
 pub mod lists
 pub mod meetings
+pub mod pairs
 pub mod deposits
 pub mod rounds
 pub mod standing
+pub mod turns
 pub mod work

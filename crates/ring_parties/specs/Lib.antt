@@ -10,7 +10,9 @@ pub mod Looking
 pub mod Replaced
 pub mod Meeting
 pub mod Opened
+pub mod Pairing
 pub mod Parties
+pub mod Played
 pub mod Refused
 pub mod Round
 pub mod RoundActs
@@ -18,3 +20,5 @@ pub mod Seated
 pub mod Standing
 pub mod States
 pub mod Tried
+pub mod Turn
+pub mod Turns

@@ -1,12 +1,13 @@
 -- The parties of a cluster between events, as members in a round.
-use Rattle.std.specs.Prelude.{ℕ, ◌-◌, ◌&&◌, Bool, cond, nat_lt, List, length, take, Option}
+use Rattle.std.specs.Prelude.{◌≡◌, ℕ, ◌-◌, ◌<◌, ◌≤◌, ◌&&◌, Bool, cond, nat_lt, List, length, take, Option}
 use Rattle.ring_rules.specs.Machine.{World, member_at, link_at}
+use Rattle.ring_rules.specs.Step.{size}
 use Rattle.gm_member.specs.Stands.{door_links}
 use Rattle.ring_parties.specs.Ends.{PacketShown, items_in}
 use Rattle.ring_parties.specs.Parties.{Keeps, Parties, node_at}
 use Rattle.ring_parties.specs.Keeps.{keeps_at}
 use Rattle.ring_parties.specs.Standing.{Places, has_out, has_in}
-use Rattle.ring_parties.specs.RoundActs.{early}
+use Rattle.ring_parties.specs.RoundActs.{things, early}
 use Rattle.ring_parties.specs.Round.{Seat, Configuration}
 
 -- The member of an id holds what it shows, and its party keeps what it keeps; its links have the places that they have in the state. Of those at
@@ -36,7 +37,13 @@ items_known w p s = cond (has_in_at w s) (p.ins s).items (items_in w (link_at w 
 abbrev pub grants_known : World → Places → ℕ → List ℕ
 grants_known w p s = cond (has_out_at w s) (p.outs s).back (link_at w s).flow.grants
 
--- all of them, as the parties show and keep it; what stands on links is of earlier rounds
+-- Members are as the parties show and keep it, and of each link so is what it holds and what is under way, whatever its stamps.
+pub record IsSeated (w : World) (p : Places) (q : Parties) (ks : List Keeps) (a : Configuration) : Type 0 where
+  pub seats : (x : ℕ) → 1 ≤ x → x < size w → a.seats x ≡ seat_of w q ks x
+  pub items : (s : ℕ) → things (a.items s) ≡ items_known w p s
+  pub grants : (s : ℕ) → things (a.grants s) ≡ grants_known w p s
+
+-- so they are where all that stands on links is of earlier rounds
 abbrev pub seated : World → Places → Parties → List Keeps → Configuration
 seated w p q ks = record {
   seats = seat_of w q ks;

@@ -12,7 +12,7 @@ ghost use Rattle.ring_parties.specs.Parties.{Keeps, Parties};
 ghost use Rattle.ring_parties.specs.Keeps.{KeepsStand};
 ghost use Rattle.ring_parties.specs.States.{state};
 ghost use Rattle.ring_parties.specs.Standing.{Places, Stand, StandAfter};
-ghost use Rattle.ring_parties.specs.Seated.{seated};
+ghost use Rattle.ring_parties.specs.Seated.{IsSeated, seated};
 ghost use Rattle.ring_parties.specs.Closed.{TookTurnsByEnds, HasClosed};
 ghost use Rattle.ring_parties.specs.Round.{Deed, Configuration, IsIn, SameLinks, TookTurns, events_in, configuration_of};
 
@@ -36,17 +36,17 @@ pub fn every_state_has_its_members()
 
 /// Parties that stand in a state are its members, on links that hold what their ends know.
 pub fn parties_are_in_their_state()
-    ensures { (initial : ℕ) (w : World) (q : Parties) (ks : List Keeps) (h : Stand initial w q) → KeepsStand w ks
-        → IsIn w h.places.deposits (seated w h.places q ks) }
+    ensures { (initial : ℕ) (w : World) (q : Parties) (ks : List Keeps) (h : Stand initial w q) (a : Configuration)
+        → KeepsStand w ks → IsSeated w h.places q ks a → IsIn w h.places.deposits a }
 {}
 
 /// Where their members take turns in a round and it is closed, parties that stood after a journal stand after it with
 /// the merge of their logs, and keep of the queue what their members have there.
 pub fn parties_stand_after_a_round()
     ensures { (credit : CreditSpec) (names : List (List ℕ)) (before : List Event) (q q' : Parties) (ks ks' : List Keeps)
-        (logs : List (Log Deed)) (b : Configuration) (p' : Places) (h : StandAfter credit names before q)
-        → KeepsStand (state credit names before) ks → AreLogs logs
-        → TookTurnsByEnds (state credit names before) logs (seated (state credit names before) h.stand.places q ks) b
+        (logs : List (Log Deed)) (a b : Configuration) (p' : Places) (h : StandAfter credit names before q)
+        → KeepsStand (state credit names before) ks → IsSeated (state credit names before) h.stand.places q ks a
+        → AreLogs logs → TookTurnsByEnds (state credit names before) logs a b
         → length (before ++ events_in (merged logs)) < 2 ^ 59
         → HasClosed (state credit names before) q h.stand.places logs b q' ks' p'
         → StandAfter credit names (before ++ events_in (merged logs)) q'
@@ -56,6 +56,7 @@ pub fn parties_stand_after_a_round()
 /// Where nobody does anything in a round, it is closed from the beginning.
 pub fn an_empty_round_is_closed()
     ensures { (initial : ℕ) (w : World) (q : Parties) (ks : List Keeps) (h : Stand initial w q) → KeepsStand w ks
-        → TookTurnsByEnds w [] (seated w h.places q ks) (seated w h.places q ks)
+        → IsSeated w h.places q ks (seated w h.places q ks)
+        × TookTurnsByEnds w [] (seated w h.places q ks) (seated w h.places q ks)
         × HasClosed w q h.places [] (seated w h.places q ks) q ks h.places }
 {}

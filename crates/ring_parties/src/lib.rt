@@ -12,12 +12,16 @@ mod looking;
 mod meeting;
 mod node;
 mod opening;
+mod pairing;
 mod parties;
 mod party;
 mod pending_deposit;
 mod queue;
 mod refusing;
+mod side_by_side;
 mod stepping;
+mod turn;
+mod turning;
 
 pub use laws::{
     a_round_is_a_run, an_empty_round_is_closed, every_state_has_its_members,

@@ -21,6 +21,9 @@ pub(crate) struct Party {
     pub(crate) told: u32,
     pub(crate) book: Book,
     pub(crate) control: Control,
+    // Whether its receiver takes from the link on which it sends, so that the ends of that link meet before and after a
+    // round.
+    pub(crate) meets: bool,
 }
 
 impl Party {
@@ -36,6 +39,7 @@ impl Party {
             told: 0,
             book: Book::new(alloc),
             control: Control::new(alloc)?,
+            meets: false,
         })
     }
 
@@ -51,6 +55,7 @@ impl Party {
             told: 0,
             book: Book::new(alloc),
             control,
+            meets: false,
         }
     }
 }

@@ -9,8 +9,11 @@ ghost use Rattle.queue_mirror.specs.Mirror.{apply_ops, is_tell as the_telling};
 ghost use Rattle.queue_laws.specs.Starting.{is_start as the_start};
 ghost use Rattle.ring_rules.specs.Kind.{Saying, OfQueue, Says, Steps, Does, Publishes, kind_of, shown_kind};
 ghost use Rattle.ring_rules.specs.Event.{asked_op};
+ghost use Rattle.lamport_merge.specs.Recorder.{is_used_up};
 ghost use Rattle.gm_member.specs.Held.{up_refused};
 ghost use Rattle.gm_member.specs.Loads.{packet_seen};
+ghost use Rattle.gm_member.specs.Said.{said};
+ghost use Rattle.gm_member.specs.Shown.{held_of, ends_of, recorded_of, spare_of};
 ghost use Rattle.ring_parties.specs.Ends.{PacketShown};
 ghost use Rattle.ring_parties.specs.Parties.{shown_of, shown_in, keeps_in};
 ghost use Rattle.activity.specs.Kept.{got_of};
@@ -122,7 +125,7 @@ pub(crate) fn publish_refusal(party: &Party) -> Option<Reason>
 }
 
 /// The message by which it says it, where nothing refuses that.
-fn message(party: &Party, event: &Event) -> Result<Message, OutOfMemory>
+pub(crate) fn message(party: &Party, event: &Event) -> Result<Message, OutOfMemory>
     requires says { shown_kind (kind_of event.now) ≡ Kind.Says }
     requires enabled { alone_refused (kind_of event.now) (keeps_in party.now) (shown_in party.now) ≡ None }
     ensures { IfOk result (λ m. (s : Saying) → kind_of event.now ≡ Says s
@@ -171,15 +174,20 @@ pub(crate) fn say(party: &mut Party, event: &Event) -> Result<(), Refused>
 }
 
 /// It publishes a message, which its own mirror takes at once, and notes it in its book.
-fn publish(party: &mut Party, message: Message) -> Result<(), Refused>
+pub(crate) fn publish(party: &mut Party, message: Message) -> Result<(), Refused>
     requires last { last_of (keeps_in party.old).book ≡ got_of (own_known (shown_in party.old).held) }
-    requires alone { IsAlone party.old.node }
+    requires lasts { is_used_up (recorded_of party.old.node) ≡ false }
     ensures judged { IsJudged (up_refused (shown_in party.old).held None) result }
     ensures ok { OnOk result (Casts message (shown_in party.old) (shown_in party.new)) }
     ensures keeps { OnOk result (keeps_in party.new
         ≡ publishing message (shown_in party.old).held.view.version (keeps_in party.old)) }
     ensures err { OnErr result (shown_in party.new ≡ shown_in party.old) }
     ensures err_keeps { OnErr result (keeps_in party.new ≡ keeps_in party.old) }
+    ensures ends { ends_of party.new.node ≡ ends_of party.old.node }
+    ensures recorded { OnOk result (recorded_of party.new.node
+        ≡ said (held_of party.old.node).name message (recorded_of party.old.node)) }
+    ensures unrecorded { OnErr result (recorded_of party.new.node ≡ recorded_of party.old.node) }
+    ensures spare { spare_of party.old.node ≤ spare_of party.new.node }
 {
     let Ok(operation) = operation_of(&message) else {
         return Err(Refused::OutOfMemory);
@@ -240,6 +248,7 @@ impl Party {
     fn follow(&mut self, operation: Option<Op>)
         requires { 0 < (self.old).mirror.room }
         ensures shown { shown_in self.new ≡ shown_in self.old }
+        ensures node { self.new.node ≡ self.old.node }
         ensures none { operation ≡ None → keeps_in self.new ≡ keeps_in self.old }
         ensures some { (op : Op) → operation ≡ Some op → keeps_in self.new
             ≡ record (publishing (messages.Queue op) (shown_in self.old).held.view.version (keeps_in self.old)) {
@@ -257,8 +266,9 @@ impl Party {
     }
 
     /// Its book hears how many of its messages have come round to the member.
-    fn hear_round(&mut self)
+    pub(crate) fn hear_round(&mut self)
         requires { (own_known (shown_in self.old).held).forgot ≤ last_of (keeps_in self.old).book }
+        ensures node { self.new.node ≡ self.old.node }
         ensures shown { shown_in self.new ≡ shown_in self.old }
         ensures keeps { keeps_in self.new ≡ record (keeps_in self.old) {
           book = without_room (came_round (own_known (shown_in self.old).held).forgot (keeps_in self.old).book);
@@ -290,7 +300,7 @@ fn messages_on_load(load: &Load) -> usize
 }
 
 /// How many the next packet of the member's link has: it brings no more.
-fn carried(node: &Node) -> usize
+pub(crate) fn carried(node: &Node) -> usize
     ensures { (k : PacketShown) (rest : List (Option PacketShown))
         → the_first (shown_of node.now).ends.link ≡ Some k ∷ rest
         → min (messages_on k.lines) (2 ^ 64 - 1) ≤ result }
@@ -302,7 +312,7 @@ fn carried(node: &Node) -> usize
 }
 
 /// The operations among messages that came are done on a mirror that has room for them.
-fn apply_taken(mirror: &mut Mirror, taken: Vec<Taken>)
+pub(crate) fn apply_taken(mirror: &mut Mirror, taken: Vec<Taken>)
     requires { length taken.items ≤ (mirror.old).room }
     ensures { (mirror.new).mirror ≡ apply_ops (mirror.old).mirror (ops_taken taken.items) }
 {

@@ -48,7 +48,7 @@ nothing_sent given given' late late' e s = ⊎_elim
     s
 
 -- where nothing waits afterwards, the grant has gone
-one_sent : (given given' : List Grant) (late' : Option Grant) (g : Grant) → late' ≡ None → Sends given (Some g) given' late' → given' ≡ given ++ g ∷ []
+pub one_sent : (given given' : List Grant) (late' : Option Grant) (g : Grant) → late' ≡ None → Sends given (Some g) given' late' → given' ≡ given ++ g ∷ []
 one_sent given given' late' g e s = ⊎_elim
     (λ (x : (given' ≡ given) × (late' ≡ Some g)). absurd (cc (sym e ∙ x.1)))
     (λ (x : (late' ≡ None) × (d : Grant) × (Some g ≡ Some d) × (given' ≡ given ++ d ∷ [])). let d : x.1 ≡ g = cc (x.2) in x.3 ∙ ap (λ k. given ++ k ∷ []) d)

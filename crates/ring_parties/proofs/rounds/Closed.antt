@@ -26,7 +26,7 @@ use Rattle.ring_parties.specs.Keeps.{KeepsStand}
 use Rattle.ring_parties.specs.Standing.{Places, MemberStands, Stand, StandAfter, HaveDone, name_of, is_to, has_out, has_in}
 use Rattle.ring_parties.specs.RoundActs.{Stamped, things, takes}
 use Rattle.ring_parties.specs.States.{state}
-use Rattle.ring_parties.specs.Seated.{has_in_at, has_out_at, seated}
+use Rattle.ring_parties.specs.Seated.{has_in_at, has_out_at, IsSeated}
 use Rattle.ring_parties.specs.Round.{Seat, Deed, Sits, Configuration, IsIn, SameLinks, TookTurns, items_at, grants_at, entries_by, events_in}
 use Rattle.ring_parties.specs.Closed.{ShowsSeat, may_take, stays_open, has_end, LinkCloses, put_on, given_on, TookTurnsByEnds, completed, HasClosed}
 use Rattle.ring_parties.proofs.work.Current.{TakesFromOpen, reached_takes}
@@ -73,14 +73,11 @@ open_at w post y s m h l parts = ⊎_elim
 
 -- ---- where a round is closed
 
-module _ (initial : ℕ) (w w' : World) (q q' : Parties) (ks ks' : List Keeps) (st : Stand initial w q) (logs : List (Log Deed)) (b : Configuration) (p' : Places)
-    (keeps : KeepsStand w ks) (turns : TookTurns w logs (seated w st.places q ks) (completed w logs (seated w st.places q ks) b)) (links : SameLinks w w')
-    (after : IsIn w' st.places.deposits (completed w logs (seated w st.places q ks) b)) (closed : HasClosed w q st.places logs b q' ks' p') (go : GoBetween w) (goes : GoBetween w') (takes_on : TakesFromOpen w') where
+module _ (initial : ℕ) (w w' : World) (q q' : Parties) (ks ks' : List Keeps) (st : Stand initial w q) (logs : List (Log Deed)) (a b : Configuration) (p' : Places)
+    (seat : IsSeated w st.places q ks a) (inside : IsIn w st.places.deposits a) (turns : TookTurns w logs a (completed w logs a b)) (links : SameLinks w w')
+    (after : IsIn w' st.places.deposits (completed w logs a b)) (closed : HasClosed w q st.places logs b q' ks' p') (go : GoBetween w) (goes : GoBetween w') (takes_on : TakesFromOpen w') where
   abbrev p : Places
   p = st.places
-
-  abbrev a : Configuration
-  a = seated w st.places q ks
 
   abbrev c : Configuration
   c = completed w logs a b
@@ -120,7 +117,7 @@ module _ (initial : ℕ) (w w' : World) (q q' : Parties) (ks ks' : List Keeps) (
   -- what stood on a link, and what was put, is what was taken and what stands there
   items_go : (s : ℕ) → items_in w (link_at w s) ++ things (put_on w logs s) ≡ things (takes (items_at s (entries_by (link_at w s).receiver logs))) ++ things (c.items s)
   items_go s =
-      ap (λ xs. xs ++ things (put_on w logs s)) (sym (seated_items initial w q ks st s)) ∙ sym (map-append (λ (z : Stamped (Option PacketShown)). z.it) (a.items s) (put_on w logs s))
+      ap (λ xs. xs ++ things (put_on w logs s)) (sym (seated_items initial w q ks st a seat s)) ∙ sym (map-append (λ (z : Stamped (Option PacketShown)). z.it) (a.items s) (put_on w logs s))
       ∙ ap things (turns.items s) ∙ map-append (λ (z : Stamped (Option PacketShown)). z.it) (takes (items_at s (entries_by (link_at w s).receiver logs))) (c.items s)
 
   -- no end was taken of a link that stays open
@@ -129,7 +126,7 @@ module _ (initial : ℕ) (w w' : World) (q q' : Parties) (ks ks' : List Keeps) (
       let y : ℕ = (link_at w s).receiver in
       let parts = and_parts (has_in_at w s) (may_take p.deposits (c.seats y) s) on in
       let k : (1 ≤ y) × (y < size w) = go.receiver s (ltb-true s (length w.links) (and_parts (nat_lt s (length w.links)) (has_in w s) parts.0).0) in
-      open_unended w p.deposits y s (a.seats y) ((parties_seated initial w q ks st keeps).seats y k.0 k.1) refl (entries_by y logs) (c.seats y) (turns.runs y k.0 k.1) parts.1
+      open_unended w p.deposits y s (a.seats y) (inside.seats y k.0 k.1) refl (entries_by y logs) (c.seats y) (turns.runs y k.0 k.1) parts.1
 
   -- so its out end has ended where the end stands there
   ended_is : (s : ℕ) → s < length w.links → has_in w s ≡ true → stays_open w p.deposits b s ≡ true → (p'.outs s).ended ≡ has_end (things (c.items s))
@@ -149,10 +146,10 @@ module _ (initial : ℕ) (w w' : World) (q q' : Parties) (ks ks' : List Keeps) (
   grants_go s l none =
       let x : ℕ = (link_at w s).sender in
       let k : (1 ≤ x) × (x < size w) = go.sender s l in
-      let apart : (a.seats x).out ≢ Some s = λ (e : (member_at w x).out ≡ Some s). false≢true (sym none ∙ ap (λ o. is_place o s) e ∙ nat_eq-same s) in
+      let apart : (a.seats x).out ≢ Some s = λ (e : (a.seats x).out ≡ Some s). false≢true (sym none ∙ ap (λ o. is_place o s) (sym (inside.seats x k.0 k.1).out ∙ e) ∙ nat_eq-same s) in
       let gains : takes (grants_at s (entries_by x logs)) ≡ [] = grants_taken s (entries_by x logs) ∙ (local_sends s (entries_by x logs) (a.seats x) (c.seats x) apart (turns.runs x k.0 k.1)).1 in
       ap things (sym (turns.grants s ∙ ap (λ gs. gs ++ c.grants s) gains))
-      ∙ map-append (λ (z : Stamped ℕ). z.it) (a.grants s) (given_on w logs s) ∙ ap (λ gs. gs ++ things (given_on w logs s)) ((parties_seated initial w q ks st keeps).grants s)
+      ∙ map-append (λ (z : Stamped ℕ). z.it) (a.grants s) (given_on w logs s) ∙ ap (λ gs. gs ++ things (given_on w logs s)) (inside.grants s)
 
   grants_stand : (s : ℕ) (has : Bool) → has_out w s ≡ has → s < length w.links → has_in w s ≡ true → stays_open w p.deposits b s ≡ true → (p'.outs s).gained ++ (link_at w' s).flow.grants ≡ (p'.ins s).given
   grants_stand s true o l has on =
@@ -236,16 +233,15 @@ module _ (initial : ℕ) (w w' : World) (q q' : Parties) (ks ks' : List Keeps) (
 
 -- Where parties stand after a journal, and their members take their turns in a round from there on, they stand after the journal with the merge of
 -- their logs behind it, once the round is closed.
-pub round_stands : (credit : CreditSpec) (names : List (List ℕ)) (before : List Event) (q q' : Parties) (ks ks' : List Keeps) (logs : List (Log Deed)) (b : Configuration) (p' : Places) (h : StandAfter credit names before q)
-    → KeepsStand (state credit names before) ks → AreLogs logs → TookTurnsByEnds (state credit names before) logs (seated (state credit names before) h.stand.places q ks) b → length (before ++ events_in (merged logs)) < 2 ^ 59
+pub round_stands : (credit : CreditSpec) (names : List (List ℕ)) (before : List Event) (q q' : Parties) (ks ks' : List Keeps) (logs : List (Log Deed)) (a b : Configuration) (p' : Places) (h : StandAfter credit names before q)
+    → KeepsStand (state credit names before) ks → IsSeated (state credit names before) h.stand.places q ks a → AreLogs logs → TookTurnsByEnds (state credit names before) logs a b → length (before ++ events_in (merged logs)) < 2 ^ 59
     → HasClosed (state credit names before) q h.stand.places logs b q' ks' p' → StandAfter credit names (before ++ events_in (merged logs)) q' × KeepsStand (state credit names (before ++ events_in (merged logs))) ks'
-round_stands credit names before q q' ks ks' logs b p' h keeps are by_ends few closed =
+round_stands credit names before q q' ks ks' logs a b p' h keeps seat are by_ends few closed =
     let w : World = state credit names before in
-    let a : Configuration = seated w h.stand.places q ks in
     let c : Configuration = completed w logs a b in
     let events : List Event = before ++ events_in (merged logs) in
     let w' : World = state credit names events in
-    let first : IsIn w h.stand.places.deposits a = parties_seated credit.initial w q ks h.stand keeps in
+    let first : IsIn w h.stand.places.deposits a = parties_seated credit.initial w q ks h.stand a keeps seat in
     let turns : TookTurns w logs a c = took_turns w h.stand.places.deposits logs a b (reached_owns credit names before h.journal.are h.journal.run) first by_ends in
     let round = round_runs credit names before h.stand.places.deposits logs a c h.journal.are h.journal.run first are turns in
     let go : GoBetween w = reached_go credit names before h.journal.are h.journal.run in
@@ -253,7 +249,7 @@ round_stands credit names before q q' ks ks' logs b p' h keeps are by_ends few c
     let takes : TakesFromOpen w' = reached_takes credit names events h.journal.are round.0 in (
       record {
         journal = record { are = h.journal.are; run = round.0; few = few };
-        stand = closed_stands credit.initial w w' q q' ks ks' h.stand logs b p' keeps turns round.2 round.1 closed go goes takes;
+        stand = closed_stands credit.initial w w' q q' ks ks' h.stand logs a b p' seat first turns round.2 round.1 closed go goes takes;
       },
-      closed_keeps credit.initial w w' q q' ks ks' h.stand logs b p' keeps turns round.2 round.1 closed go goes takes,
+      closed_keeps credit.initial w w' q q' ks ks' h.stand logs a b p' seat first turns round.2 round.1 closed go goes takes,
     )

@@ -1,5 +1,5 @@
 -- Parties that stand in a state are, as members in a round, those of it; and what ends know balances with what they did between two meetings.
-use Rattle.std.proofs.Common.{◌≡◌, ℕ, ◌-◌, ◌<◌, ◌≤◌, Bool, true, false, cond, nat_lt, Option, List, ◌++◌, length, take, map, refl, sym, ap, ◌∙◌, append_assoc}
+use Rattle.std.proofs.Common.{◌≡◌, ℕ, ◌-◌, ◌<◌, ◌≤◌, Bool, true, false, cond, nat_lt, Option, List, ◌++◌, length, take, map, refl, sym, ap, subst, ◌∙◌, append_assoc}
 use Rattle.std.specs.Prelude.{◌&&◌}
 use Rattle.std.proofs.lemmas.Bool.{and_parts, ltb-true, lt-ltb}
 use Rattle.std.proofs.lemmas.List.{length-map, append_cancel_left}
@@ -14,8 +14,8 @@ use Rattle.ring_parties.specs.Parties.{Keeps, Shown, Parties, node_at}
 use Rattle.ring_parties.specs.Keeps.{KeepsStand}
 use Rattle.ring_parties.specs.Standing.{Places, MemberStands, Stand, is_to, has_out, has_in}
 use Rattle.ring_parties.specs.RoundActs.{things}
-use Rattle.ring_parties.specs.Round.{Sits, IsIn}
-use Rattle.ring_parties.specs.Seated.{seat_of, has_in_at, has_out_at, items_known, grants_known, seated}
+use Rattle.ring_parties.specs.Round.{Sits, Configuration, IsIn}
+use Rattle.ring_parties.specs.Seated.{seat_of, has_in_at, has_out_at, items_known, grants_known, IsSeated, seated}
 use Rattle.ring_parties.proofs.events.Ready.{all_settled, settled_items}
 use Rattle.ring_parties.proofs.meetings.Known.{all_know}
 use Rattle.ring_parties.proofs.rounds.Acts.{things-early}
@@ -62,15 +62,23 @@ seat_sits w p q ks x some lt h keeps =
       door = h.comes ∙ ap (λ ds. ds ++ filter (is_to w x) p.deposits) (sym door);
     }
 
--- what stands on a link is what the ring has there
-pub seated_items : (initial : ℕ) (w : World) (q : Parties) (ks : List Keeps) (h : Stand initial w q) (s : ℕ) → things ((seated w h.places q ks).items s) ≡ items_in w (link_at w s)
-seated_items initial w q ks h s = things-early (items_known w h.places s) ∙ items_all initial w q h s (has_in_at w s) refl
+-- all that stands on links of earlier rounds is what the parties show
+pub early_seated : (w : World) (p : Places) (q : Parties) (ks : List Keeps) → IsSeated w p q ks (seated w p q ks)
+early_seated w p q ks = record {
+  seats = λ x _ _. refl;
+  items = λ s. things-early (items_known w p s);
+  grants = λ s. things-early (grants_known w p s);
+}
 
-pub parties_seated : (initial : ℕ) (w : World) (q : Parties) (ks : List Keeps) (h : Stand initial w q) → KeepsStand w ks → IsIn w h.places.deposits (seated w h.places q ks)
-parties_seated initial w q ks h keeps = record {
-  seats = λ x some lt. seat_sits w h.places q ks x some lt (h.stand.each x some lt) keeps;
-  items = λ s _. seated_items initial w q ks h s;
-  grants = λ s. things-early (grants_known w h.places s) ∙ grants_all initial w q h s (has_out_at w s) refl;
+-- what stands on a link is what the ring has there
+pub seated_items : (initial : ℕ) (w : World) (q : Parties) (ks : List Keeps) (h : Stand initial w q) (a : Configuration) → IsSeated w h.places q ks a → (s : ℕ) → things (a.items s) ≡ items_in w (link_at w s)
+seated_items initial w q ks h a is s = is.items s ∙ items_all initial w q h s (has_in_at w s) refl
+
+pub parties_seated : (initial : ℕ) (w : World) (q : Parties) (ks : List Keeps) (h : Stand initial w q) (a : Configuration) → KeepsStand w ks → IsSeated w h.places q ks a → IsIn w h.places.deposits a
+parties_seated initial w q ks h a keeps is = record {
+  seats = λ x some lt. subst (Sits w h.places.deposits x) (sym (is.seats x some lt)) (seat_sits w h.places q ks x some lt (h.stand.each x some lt) keeps);
+  items = λ s _. seated_items initial w q ks h a is s;
+  grants = λ s. is.grants s ∙ grants_all initial w q h s (has_out_at w s) refl;
 }
 
 -- ---- between two meetings

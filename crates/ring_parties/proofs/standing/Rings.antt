@@ -5,11 +5,11 @@ use Rattle.rtrb.specs.Ring.{sent, received as got, known_items, known_free, prod
 use Rattle.ordered_link.specs.declared.grant.Grant.{Grant}
 use Rattle.ordered_link.specs.declared.ring.RingOut.{RingOut}
 use Rattle.ordered_link.specs.declared.ring.RingIn.{RingIn}
-use Rattle.ordered_link.specs.RingSteps.{AreRingEnds, RingMeets, IsFreshRingPair}
+use Rattle.ordered_link.specs.RingSteps.{AreRingEnds, RingsHaveMet, RingMeets, IsFreshRingPair}
 use Rattle.ordered_link.specs.Names.{out_pair, in_pair}
 use Rattle.ordered_link.proofs.Rings.{named_ends, ends_named}
 use Rattle.activity.specs.declared.packet.Load.{Load}
-use Rattle.ring_parties.specs.Ends.{Fits, Meets, fresh_out, fresh_in}
+use Rattle.ring_parties.specs.Ends.{Fits, HaveMet, Meets, fresh_out, fresh_in}
 use Rattle.ring_parties.specs.Parties.{content, amounts, amount_of, out_seen, in_seen}
 use Rattle.ring_parties.proofs.lists.Grants.{nothing_sent}
 
@@ -47,14 +47,18 @@ none_waiting (Some g) e = cc
 pub fits_ends : (o : RingOut Load) (i : RingIn Load) → Fits (out_seen o) (in_seen i) → AreRingEnds o i
 fits_ends o i f = named_ends o i f.ring f.initial f.slots
 
+-- what ends show that have met
+pub met_seen : (o : RingOut Load) (i : RingIn Load) → RingsHaveMet o i → HaveMet (out_seen o) (in_seen i)
+met_seen o i met = record {
+  items = sym (map-append content (got i.items) (known_items i.items)) ∙ ap (map content) met.items;
+  grants = sym (map-append (λ (g : Grant). g.amount) (got o.back) (known_items o.back)) ∙ ap amounts met.grants;
+  free = (let many : length (map content (known_items i.items)) ≡ length (known_items i.items) = length-map (known_items i.items) content in omega (arith, many, met.free));
+  room = (let many : length (amounts (known_items o.back)) ≡ length (known_items o.back) = length-map (known_items o.back) (λ (g : Grant). g.amount) in omega (arith, many, met.room));
+}
+
 pub meets_seen : (o o' : RingOut Load) (i i' : RingIn Load) → RingMeets o i o' i' → Meets (out_seen o) (in_seen i) (out_seen o') (in_seen i')
 meets_seen o o' i i' m = record {
-  met = record {
-    items = sym (map-append content (got i'.items) (known_items i'.items)) ∙ ap (map content) m.met.items;
-    grants = sym (map-append (λ (g : Grant). g.amount) (got o'.back) (known_items o'.back)) ∙ ap amounts m.met.grants;
-    free = (let many : length (map content (known_items i'.items)) ≡ length (known_items i'.items) = length-map (known_items i'.items) content in omega (arith, many, m.met.free));
-    room = (let many : length (amounts (known_items o'.back)) ≡ length (known_items o'.back) = length-map (known_items o'.back) (λ (g : Grant). g.amount) in omega (arith, many, m.met.room));
-  };
+  met = met_seen o' i' m.met;
   put = ap (map content) m.out.2;
   gained = ap amounts m.out.3;
   taken = ap (map content) m.link.1;
