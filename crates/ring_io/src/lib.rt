@@ -18,7 +18,7 @@ mod tests;
 mod whole;
 
 pub use adapters::{Counting, ReadSource, WriteSink};
-pub use gate::{Gate, ShutGate};
+pub use gate::{AFTER, BEFORE, Gate, ShutGate};
 pub use meet::MeetGate;
 pub use memory::{MemorySink, MemorySource};
 pub use sink::Sink;

@@ -1,11 +1,8 @@
 //! A gate at which two members meet.
-use crate::gate::Gate;
+use crate::gate::{BEFORE, Gate};
 use ring_names::MemberId;
 use std::sync::atomic::{AtomicBool, Ordering};
 use std::thread;
-
-/// What a gate is told before a turn.
-const BEFORE: u8 = 1;
 
 /// Holds the first turns of two members up until both have begun: a round that gives each member its turns on its
 /// own passes it only where the two go side by side. Who looks for the other in vain goes on. It takes no memory.
