@@ -1,2 +1,3 @@
 -- Agendas by their names.
 pub mod Plans
+pub mod Struck

@@ -12,4 +12,5 @@ pub mod Playing
 pub mod Resting
 pub mod Serving
 pub mod Settling
+pub mod SideBySide
 pub mod Turning

@@ -1,6 +1,6 @@
 -- What is still to be done, by the name of the member that was asked. One that nobody has yet may have an agenda too.
-use Rattle.std.specs.Prelude.{◌≡◌, ℕ, List, [], ◌∷◌, ◌++◌, length, map, position, bytes_eq, slice_set, slice_index_or, Option, Some, None}
-use Rattle.std.specs.List.{sum_by}
+use Rattle.std.specs.Prelude.{◌≡◌, ℕ, zero, suc, ◌<◌, List, [], ◌∷◌, ◌++◌, length, map, position, bytes_eq, slice_set, slice_index_or, drop, Option, Some, None}
+use Rattle.std.specs.List.{All, sum_by}
 use Rattle.ring_rules.specs.declared.event.Client.{Client}
 use Rattle.ring_rules.specs.Event.{asked_of}
 
@@ -60,3 +60,20 @@ with_asked plans (Some t) = with_task plans t
 -- how many tasks are on all of them
 abbrev pub tasks_on_all : List Plan → ℕ
 tasks_on_all plans = sum_by (λ a. length a.tasks) plans
+
+-- these are the first of the tasks of the member of that name, at least one where it has any
+pub record IsFront (name : List ℕ) (tasks front : List Client) : Type 0 where
+  pub first : (rest : List Client) × (tasks ≡ front ++ rest)
+  pub some : front ≡ [] → tasks ≡ []
+  pub asked : All (IsAskedOf name) front
+
+-- those of the members of these names, by places
+pub record AreFronts (plans : List Plan) (names : List (List ℕ)) (fronts : List (List Client)) : Type 0 where
+  pub many : length fronts ≡ length names
+  pub each : (i : ℕ) → i < length names → IsFront (slice_index_or names i []) (tasks_in plans (slice_index_or names i [])) (slice_index_or fronts i [])
+
+-- the agendas without the first tasks of the members of these names below the place k, so many of each, by places
+abbrev pub struck_off : ℕ → List (List ℕ) → List ℕ → List Plan → List Plan
+struck_off zero names counts plans = plans
+struck_off (suc k) names counts plans =
+    with_tasks (struck_off k names counts plans) (slice_index_or names k []) (drop (slice_index_or counts k 0) (tasks_in (struck_off k names counts plans) (slice_index_or names k [])))

@@ -1,5 +1,5 @@
 -- The turns of a cluster.
-use Rattle.std.specs.Prelude.{◌≡◌, ◌≢◌, ℕ, ◌+◌, ◌<◌, ◌≤◌, Bool, true, false, List, ◌++◌, length, bytes_eq, Some, None, Result, IfOk}
+use Rattle.std.specs.Prelude.{◌≡◌, ◌≢◌, ℕ, ◌+◌, ◌<◌, ◌≤◌, Bool, true, false, List, [], ◌++◌, length, take, slice_index_or, bytes_eq, Some, None, Result, IfOk}
 use Rattle.std.specs.List.{All, filter}
 use Rattle.ring_names.specs.declared.memory.OutOfMemory.{OutOfMemory}
 use Rattle.ring_rules.specs.declared.event.Event.{Event}
@@ -14,7 +14,8 @@ use Rattle.ring_cluster.specs.declared.driver.OwnTurn.TheVariants as turn
 use Rattle.ring_cluster.specs.Seen.{Seen, state_of, IsMemberIn, SameButOwed, with_event}
 use Rattle.ring_rules.specs.Work.{is_stale, total}
 use Rattle.ring_rules.specs.Settling.{owes_telling}
-use Rattle.ring_cluster.specs.Plays.{HasGoneOn, SameGiven, LeavesAgenda}
+use Rattle.ring_cluster.specs.Plays.{HasGoneOn, SameGiven, LeavesAgenda, client_events, todo, agenda_of}
+use Rattle.ring_parties.specs.Turns.{IsOfRound}
 use Rattle.ring_cluster.specs.Backlog.{backlog_of}
 use Rattle.ring_rules.specs.Kind.{step_event}
 
@@ -71,6 +72,18 @@ events_of name events = filter (λ e. bytes_eq (by_of e) name) events
 -- of the events that have happened since, at most so many are of each member
 abbrev pub EachDoesAtMost : ℕ → Seen → Seen → Type 0
 EachDoesAtMost turns c d = (more : List Event) × (d.events ≡ c.events ++ more) × ((name : List ℕ) → length (events_of name more) ≤ turns)
+
+-- Members of these names, by places, have taken at most so many turns each, side by side: the journal has these events more, by which each has
+-- answered so many of its tasks, the next one first, and nobody else any; each event is one that a member does by itself. The tasks that
+-- were answered are still on their agendas.
+pub record TakesTurns (turns : ℕ) (names : List (List ℕ)) (done : List ℕ) (c d : Seen) : Type 0 where
+  pub more : List Event
+  pub seen : SameButOwed (record c { events = c.events ++ more }) d
+  pub few : (name : List ℕ) → length (events_of name more) ≤ turns
+  pub each : All IsOfRound more
+  pub within : (i : ℕ) → i < length names → slice_index_or done i 0 ≤ length (agenda_of c (slice_index_or names i []))
+  pub answered : (i : ℕ) → i < length names → client_events (slice_index_or names i []) more ≡ todo (take (slice_index_or done i 0) (agenda_of c (slice_index_or names i [])))
+  pub nobody_else : (name : List ℕ) → ((i : ℕ) → i < length names → slice_index_or names i [] ≢ name) → client_events name more ≡ []
 
 -- member y may do this step
 abbrev pub MayStep : World → ℕ → LinkStep → Type 0

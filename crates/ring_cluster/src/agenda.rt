@@ -5,7 +5,7 @@ ghost use Rattle.std.specs.List.{All};
 ghost use Rattle.ring_rules.specs.declared.event.Client.{Client};
 ghost use Rattle.ring_rules.specs.Event.{asked_of};
 ghost use Rattle.ring_cluster.specs.Agendas.{Plan, IsAskedOf, names_of, place_among, tasks_in, tasks_on_all};
-ghost use Rattle.ring_cluster.specs.Agendas.{with_tasks, with_task};
+ghost use Rattle.ring_cluster.specs.Agendas.{with_tasks, with_task, IsFront};
 
 use ring_names::{Name, OutOfMemory};
 use ring_rules::Client;
@@ -33,7 +33,7 @@ impl Model for Agenda {
 impl Agenda {
     ghost use Rattle.std.specs.Prelude.{◌≡◌, ◌+◌, ◌∷◌, ◌++◌, [], List, drop, length, nat_lt, IfSome, OnOk, OnErr};
     ghost use Rattle.ring_rules.specs.declared.event.Client.{Client};
-    ghost use Rattle.ring_cluster.specs.Agendas.{IsAskedOf};
+    ghost use Rattle.ring_cluster.specs.Agendas.{IsAskedOf, IsFront};
 
     /// An agenda with nothing on it.
     fn new(alloc: Global, name: Name) -> Agenda
@@ -71,6 +71,14 @@ impl Agenda {
         ensures asked { IfSome result (λ task. IsAskedOf (self.now).name task.now) }
     {
         self.tasks.front()
+    }
+
+    /// The first tasks, as many as lie in one row: some, where there are any.
+    fn front(&self) -> &[Client]
+        ensures { IsFront (self.now).name (self.now).tasks result.now }
+    {
+        let (front, _) = self.tasks.as_slices();
+        front
     }
 
     /// The next task is done: whether there was one.
@@ -120,10 +128,12 @@ impl Model for Agendas {
 }
 
 impl Agendas {
-    ghost use Rattle.std.specs.Prelude.{◌≡◌, ◌∷◌, ◌++◌, [], List, MatchOption, IfSome, OnOk, OnErr, drop, is_some};
+    ghost use Rattle.std.specs.Prelude.{◌≡◌, ◌∷◌, ◌++◌, [], List, MatchOption, IfSome, IfOk, OnOk, OnErr, drop, length};
+    ghost use Rattle.std.specs.Prelude.{map, is_some};
     ghost use Rattle.ring_rules.specs.declared.event.Client.{Client};
     ghost use Rattle.ring_rules.specs.Event.{asked_of};
     ghost use Rattle.ring_cluster.specs.Agendas.{Plan, IsAskedOf, names_of, place_among, tasks_in, with_tasks, with_task};
+    ghost use Rattle.ring_cluster.specs.Agendas.{IsFront, AreFronts, struck_off};
 
     /// Nobody has an agenda.
     pub(crate) fn none(alloc: Global) -> Agendas
@@ -154,6 +164,56 @@ impl Agendas {
         if strike_off(&mut self.list, name) {
             self.count -= 1;
         }
+    }
+
+    /// The first tasks of the member of that name, as many as lie in one row: some, where there are any.
+    fn front(&self, name: &Name) -> &[Client]
+        ensures { IsFront name.now (tasks_in self.now name.now) result.now }
+    {
+        if self.count == 0 {
+            return &[];
+        }
+        front(&self.list, name)
+    }
+
+    /// Those of the members of these names, by places.
+    pub(crate) fn fronts(
+        &self,
+        alloc: Global,
+        names: &[Name],
+    ) -> Result<Vec<&[Client]>, OutOfMemory>
+        ensures { IfOk result (λ v. AreFronts self.now names.now (map (λ t. t.now) v.items)) }
+    {
+        let mut fronts = Vec::with_capacity(alloc, names.len())?;
+        for name in names {
+            fronts.push(self.front(name))?;
+        }
+        Ok(fronts)
+    }
+
+    /// The next tasks of the member of that name are done, so many.
+    fn strike_off_many(&mut self, name: &Name, count: usize)
+        ensures { self.new ≡ with_tasks self.old name.now (drop count (tasks_in self.old name.now)) }
+    {
+        for _task in 0..count {
+            self.strike_off(name);
+        }
+    }
+
+    /// Those of the members of these names are, so many of each, by places.
+    pub(crate) fn strike_off_each(&mut self, names: &[Name], counts: &[usize])
+        requires { length counts.now ≡ length names.now }
+        ensures { self.new ≡ struck_off (length names.now) names.now counts.now self.old }
+    {
+        for place in 0..names.len() {
+            self.strike_off_many(&names[place], counts[place]);
+        }
+    }
+
+    /// Whether at least two members have a task.
+    pub(crate) fn are_several(&self) -> bool {
+        let mut busy = self.list.iter().filter(|agenda| agenda.len() > 0);
+        busy.next().is_some() && busy.next().is_some()
     }
 
     /// Whether that name has an agenda.
@@ -202,6 +262,16 @@ fn next_task<'a>(agendas: &'a [Agenda], name: &Name) -> Option<&'a Client>
     match place_of(agendas, name) {
         Some(place) => agendas[place].head(),
         None => None,
+    }
+}
+
+/// The first tasks of the member of that name, as many as lie in one row: some, where there are any.
+fn front<'a>(agendas: &'a [Agenda], name: &Name) -> &'a [Client]
+    ensures { IsFront name.now (tasks_in agendas.now name.now) result.now }
+{
+    match place_of(agendas, name) {
+        Some(place) => agendas[place].front(),
+        None => &[],
     }
 }
 

@@ -11,7 +11,7 @@ use group_view::View;
 use queue_mirror::Mirror;
 use ring_io::Gate;
 use ring_names::{Body, CreditSpec, MemberId, Name, OutOfMemory, Reason};
-use ring_parties::{Node, Parties};
+use ring_parties::{Node, Parties, Round};
 use ring_rules::{Client, Event, LinkStep, Phase, Refused};
 use ring_script::Command;
 use std::alloc::Global;
@@ -23,6 +23,10 @@ const MOST_ROUNDS: u32 = 64;
 
 /// How many turns each member has in a round of a settling.
 const TURNS: u32 = 16;
+
+/// From how many members on a round has four threads in place of two: a thread costs some 20 to 30 microseconds, a turn
+/// about one.
+const MANY_MEMBERS: usize = 32;
 
 /// The members of a ring over ring pairs with what each has still to do, the registrar, and the journal of what has
 /// happened among them. It stands for the nodes on which the processes of `gm` run, and for the registry in which
@@ -83,7 +87,10 @@ impl Cluster {
     ghost use Rattle.ring_cluster.specs.Plays.{performed, answer_to, agenda_of, GoesOn, HasGoneOn};
     ghost use Rattle.ring_cluster.specs.Plays.{HasBegun, HeadsAre, LeavesAgenda, AgendasAreEmpty};
     ghost use Rattle.ring_cluster.specs.Handed.{handing as is_handed, heir as the_heir};
-    ghost use Rattle.ring_cluster.specs.Turns.{MayStep, TakesRound, EachDoesAtMost, IsMemberAt};
+    ghost use Rattle.ring_cluster.specs.Turns.{MayStep, TakesRound, EachDoesAtMost, IsMemberAt, TakesTurns};
+    ghost use Rattle.ring_cluster.specs.Agendas.{struck_off};
+    ghost use Rattle.ring_cluster.specs.Published.{names_in};
+    ghost use Rattle.std.specs.List.{All};
     ghost use Rattle.ring_cluster.specs.Rounds.{more_rounds, GivesNumbers};
 
     /// The cluster of a ring that has just opened with these members, in ring order: nobody has anything
@@ -441,6 +448,89 @@ impl Cluster {
         self.agendas.next_task(name).is_some()
     }
 
+    /// How often the list of members is cut into halves that go side by side in a round.
+    fn cuts(&self) -> u32 {
+        match self.count() {
+            0 | 1 => 0,
+            2..MANY_MEMBERS => 1,
+            _ => 2,
+        }
+    }
+
+    /// The same in a round of a settling, which begins no thread where at most one member has a task.
+    fn settling_cuts(&self) -> u32 {
+        if self.agendas.are_several() {
+            self.cuts()
+        } else {
+            0
+        }
+    }
+
+    /// What members can do by themselves, side by side: each takes at most so many turns, and what it has answered of its
+    /// tasks is struck off. Want of memory leaves what has happened.
+    pub(crate) fn side_by_side<T: Threads + Sync, G: Gate>(
+        &mut self,
+        threads: &T,
+        gate: &G,
+        turns: u32,
+        cuts: u32,
+    ) -> Result<(), OutOfMemory>
+        ensures round { TakesRound self.old self.new }
+        ensures few { EachDoesAtMost turns self.old self.new }
+    {
+        self.is_going();
+        let names = self.parties.names(self.alloc)?;
+        let mut done = vec![in self.alloc; 0; names.len()]?;
+        let round = Round {
+            number: self.rounds.count(),
+            turns,
+            cuts,
+        };
+        let took = self.take_turns(threads, gate, round, &names, &mut done);
+        self.strike_off_done(&names, &done);
+        self.is_going();
+        took
+    }
+
+    /// The members, by places of these names, take at most so many turns each, side by side: `done` tells of how many of
+    /// its tasks each has answered, which are still on its agenda. Want of memory leaves what has happened.
+    fn take_turns<T: Threads + Sync, G: Gate>(
+        &mut self,
+        threads: &T,
+        gate: &G,
+        round: Round,
+        names: &[Name],
+        done: &mut [usize],
+    ) -> Result<(), OutOfMemory>
+        requires names { names.now ≡ names_in (state_of self.old) }
+        requires done { length done.old ≡ length names.now }
+        requires none { All (λ n. n ≡ 0) done.old }
+        ensures taken { TakesTurns round.turns names.now done.new self.old self.new }
+        ensures done { length done.new ≡ length names.now }
+    {
+        let fronts = self.agendas.fronts(self.alloc, names)?;
+        self.parties.take_turns(
+            threads,
+            gate,
+            self.credit,
+            &self.names,
+            &mut self.journal,
+            round,
+            &fronts,
+            done,
+        )
+    }
+
+    /// So many tasks of each member are done, by places of these names.
+    fn strike_off_done(&mut self, names: &[Name], done: &[usize])
+        requires { length done.now ≡ length names.now }
+        ensures { self.new ≡ record self.old {
+          agendas = struck_off (length names.now) names.now done.now (self.old).agendas;
+        } }
+    {
+        self.agendas.strike_off_each(names, done);
+    }
+
     /// The first task of the member of that name is done.
     fn strike_off(&mut self, name: &Name)
         ensures { self.new ≡ record self.old {
@@ -485,14 +575,15 @@ impl Cluster {
         self.journal.len()
     }
 
-    /// One round: each member that runs or has a task takes at least one and at most so many turns, the first of which
-    /// does the head of its agenda, where it has one, or refuses it where the ring does; a new master begins with its
-    /// start. From there on its own work and its agenda come first alternately, so that neither waits until the other is
-    /// done. One that waits for its state leaves its agenda, but stops at once where that is to be done next. A join that a member refuses since it has
-    /// stopped goes to the end of the agenda of the running member of least id. Who joins in a round takes turns from
-    /// the next one on. After it nothing is owed. Before and after each turn the gate is passed. Want of memory leaves
-    /// what has happened.
-    pub fn go<T: Threads, G: Gate>(
+    /// One round: each member that runs or has a task takes at least one and at most so many turns, which begin with the
+    /// head of its agenda, where it has one: it does that, or refuses it where the ring does; a new master begins with its
+    /// start. All turns but the last they take side by side on threads, and do in them what each can by itself, on the links
+    /// that it has; in the last, one member after another, each may ask of the registrar too. Where a thread can't be
+    /// started its part is done by the caller. One that waits for its state leaves its agenda, but stops at once where that
+    /// is to be done next. A join that a member refuses since it has stopped goes to the end of the agenda of the running
+    /// member of least id. Who joins in a round takes turns from the next one on. After it nothing is owed. Before and after
+    /// each turn the gate is passed. Want of memory leaves what has happened.
+    pub fn go<T: Threads + Sync, G: Gate>(
         &mut self,
         threads: &T,
         turns: u32,
@@ -510,10 +601,9 @@ impl Cluster {
         ensures delivered { OnOk result ((self.new).owes ≡ false) }
         ensures plays { PlaysSoFar self.old → PlaysSoFar self.new }
     {
-        let _ = threads;
         self.number_round();
         self.note(Command::Go { turns })?;
-        match self.take_round(turns, gate) {
+        match self.take_round(threads, turns, gate) {
             Ok(()) => Ok(()),
             Err(OutOfMemory) => {
                 self.forget_note();
@@ -523,7 +613,12 @@ impl Cluster {
     }
 
     /// A round, after which nothing is owed.
-    fn take_round<G: Gate>(&mut self, turns: u32, gate: &G) -> Result<(), OutOfMemory>
+    fn take_round<T: Threads + Sync, G: Gate>(
+        &mut self,
+        threads: &T,
+        turns: u32,
+        gate: &G,
+    ) -> Result<(), OutOfMemory>
         requires { 1 ≤ turns }
         ensures round { TakesRound self.old self.new }
         ensures few { EachDoesAtMost turns self.old self.new }
@@ -531,17 +626,23 @@ impl Cluster {
             → HasBegun i name self.old self.new) }
         ensures delivered { OnOk result ((self.new).owes ≡ false) }
     {
-        round(self, turns, gate)?;
+        let cuts = self.cuts();
+        round(self, threads, turns, cuts, gate)?;
         self.deliver()?;
         Ok(())
     }
 
-    /// Rounds of 16 turns until one does nothing, 64 at most, and then a drain: the ring works and repairs itself, and
+    /// Rounds of 16 turns until one does nothing, 64 at most, and then a drain. A round in which at least two members have a
+    /// task begins on threads, as that of `go`; another runs on the caller's, and so does the drain: the ring works and repairs itself, and
     /// each member does all of its agenda, or refuses it, who joins too, until no member has anything left to do. Then
     /// it is quiet: where anybody runs, nobody waits, and who has died is erased; a running master has started, and
     /// everybody knows what its mirror lacks. Each round has a number, and so has the drain. After it nothing is owed.
     /// Want of memory leaves what has happened.
-    pub fn settle<T: Threads, G: Gate>(&mut self, threads: &T, gate: &G) -> Result<(), OutOfMemory>
+    pub fn settle<T: Threads + Sync, G: Gate>(
+        &mut self,
+        threads: &T,
+        gate: &G,
+    ) -> Result<(), OutOfMemory>
         ensures goes { HasGoneOn self.old self.new }
         ensures empty { OnOk result (AgendasAreEmpty self.new) }
         ensures idle { OnOk result (IsIdle (state_of self.new)) }
@@ -555,10 +656,9 @@ impl Cluster {
         ensures played { OnOk result (PlaysSoFar self.old
             → Plays (self.new).credit (self.new).names (self.new).events (self.new).given) }
     {
-        let _ = threads;
         self.is_going();
         self.note(Command::Settle)?;
-        match self.work_out(gate) {
+        match self.work_out(threads, gate) {
             Ok(()) => Ok(()),
             Err(OutOfMemory) => {
                 self.forget_note();
@@ -568,7 +668,11 @@ impl Cluster {
     }
 
     /// The rounds of a settling, and its drain.
-    fn work_out<G: Gate>(&mut self, gate: &G) -> Result<(), OutOfMemory>
+    fn work_out<T: Threads + Sync, G: Gate>(
+        &mut self,
+        threads: &T,
+        gate: &G,
+    ) -> Result<(), OutOfMemory>
         ensures goes { HasGoneOn self.old self.new }
         ensures given { (self.new).given ≡ (self.old).given }
         ensures empty { OnOk result (AgendasAreEmpty self.new) }
@@ -579,7 +683,7 @@ impl Cluster {
         ensures delivered { OnOk result ((self.new).owes ≡ false) }
         ensures going { OnOk result (IsGoing self.new) }
     {
-        self.work_rounds(gate)?;
+        self.work_rounds(threads, gate)?;
         self.number_round();
         drain(self)?;
         self.deliver()?;
@@ -588,7 +692,11 @@ impl Cluster {
     }
 
     /// The rounds of a settling.
-    fn work_rounds<G: Gate>(&mut self, gate: &G) -> Result<(), OutOfMemory>
+    fn work_rounds<T: Threads + Sync, G: Gate>(
+        &mut self,
+        threads: &T,
+        gate: &G,
+    ) -> Result<(), OutOfMemory>
         ensures goes { HasGoneOn self.old self.new }
         ensures given { (self.new).given ≡ (self.old).given }
         ensures rounds { GivesNumbers 1 64 self.old self.new }
@@ -597,7 +705,8 @@ impl Cluster {
         for _round in 0..MOST_ROUNDS {
             let before = self.happened();
             self.number_round();
-            round(self, TURNS, gate)?;
+            let cuts = self.settling_cuts();
+            round(self, threads, TURNS, cuts, gate)?;
             if self.happened() == before {
                 return Ok(());
             }

@@ -19,9 +19,10 @@ ghost use Rattle.ring_cluster.specs.Turns.{FinishesOrRests, AllLeaveAgendas, All
 
 use crate::cluster::Cluster;
 use group_view::{Entry, Mark};
-use ring_io::Gate;
+use ring_io::{AFTER, BEFORE, Gate};
 use ring_names::{MemberId, Name, OutOfMemory};
 use ring_rules::{Event, LinkStep, Phase, Refused};
+use std::thread::Threads;
 
 /// What a member has to do by itself.
 #[derive(Clone, Copy, PartialEq, Eq, Debug)]
@@ -40,34 +41,6 @@ pub(crate) enum OwnTurn {
     Tell,
     /// It does a step on its links.
     Step(LinkStep),
-}
-
-/// In how many further turns of a round a member prefers its own work once.
-const OWN_EVERY: u32 = 8;
-
-/// What a member does first in a turn.
-#[derive(Clone, Copy, PartialEq, Eq, Debug)]
-enum Preference {
-    /// What is next on its agenda; where it does nothing of that at once, a step of its own.
-    Agenda,
-    /// A step of its own; where it has none to do, what is next on its agenda.
-    Own,
-}
-
-/// Whether a member prefers its own work in a further turn of a round, by the number of that turn from 0 on: in the
-/// first, directly behind the head of its agenda, and then in every eighth. So what it publishes goes out before its
-/// agenda is done, and a long agenda is still done in few packets.
-fn prefers_own(turn: u32) -> bool {
-    turn % OWN_EVERY == 0
-}
-
-/// What a member does first in a further turn of a round.
-fn preference_in(turn: u32) -> Preference {
-    if prefers_own(turn) {
-        Preference::Own
-    } else {
-        Preference::Agenda
-    }
 }
 
 /// An event of the member of an id, of its own, that leaves less to do, where it is enabled: whether it was.
@@ -443,63 +416,23 @@ fn agenda_first(cluster: &mut Cluster, place: usize, name: &Name) -> Result<bool
     Ok(did)
 }
 
-/// The member at a place, which has this name, does a step of its own, where it runs and has any to do; else the head
-/// of its agenda, or refuses it, where it has one and what refuses it doesn't pass. Whether it did any.
-fn own_first(cluster: &mut Cluster, place: usize, name: &Name) -> Result<bool, OutOfMemory>
-    requires { IsMemberAt cluster.old place name.now }
-    ensures round { TakesRound cluster.old cluster.new }
-    ensures once { DoesAtMost 1 name.now cluster.old cluster.new }
-{
-    if work_turn(cluster, place)? {
-        return Ok(true);
-    }
-    cluster.is_going();
-    let did = cluster.perform(place, name)?;
-    Ok(did)
-}
-
-/// The member at a place, which has this name, takes a turn: what it prefers, where it has any of that to do; else the
-/// other. Whether it did any.
-fn turn(
+/// The member at a place, which has this name, takes a turn, where it runs or has a task.
+#[tactic(auto, using(crate::proofs::rounds::Turning::last_turn))]
+fn last_turn<G: Gate>(
     cluster: &mut Cluster,
     place: usize,
     name: &Name,
-    first: Preference,
-) -> Result<bool, OutOfMemory>
-    requires { IsMemberAt cluster.old place name.now }
-    ensures round { TakesRound cluster.old cluster.new }
-    ensures once { DoesAtMost 1 name.now cluster.old cluster.new }
-    ensures begun { first ≡ Preference.Agenda → OnOk result (HasBegun place name.now cluster.old cluster.new) }
-{
-    match first {
-        Preference::Agenda => agenda_first(cluster, place, name),
-        Preference::Own => own_first(cluster, place, name),
-    }
-}
-
-/// The member at a place takes at least one and at most so many turns, where it runs or has a task. In the first it
-/// prefers its agenda.
-#[tactic(auto, using(crate::proofs::rounds::Turning::more_turns))]
-fn turns_of<G: Gate>(
-    cluster: &mut Cluster,
-    place: usize,
-    name: &Name,
-    turns: u32,
     gate: &G,
 ) -> Result<(), OutOfMemory>
-    requires at { IsMemberAt cluster.old place name.now }
-    requires some { 1 ≤ turns }
+    requires { IsMemberAt cluster.old place name.now }
     ensures round { TakesRound cluster.old cluster.new }
-    ensures few { DoesAtMost turns name.now cluster.old cluster.new }
+    ensures once { DoesAtMost 1 name.now cluster.old cluster.new }
     ensures begun { OnOk result (HasBegun place name.now cluster.old cluster.new) }
 {
-    cluster.is_going();
     if !has_turns(cluster, place, name) {
         return Ok(());
     }
-    if gated_turn(cluster, place, name, Preference::Agenda, gate)? {
-        more_turns(cluster, place, name, turns - 1, gate)?;
-    }
+    gated_turn(cluster, place, name, gate)?;
     Ok(())
 }
 
@@ -514,59 +447,52 @@ fn has_turns(cluster: &Cluster, place: usize, name: &Name) -> bool
     either(cluster.runs(MemberId(place as u32 + 1)), has_task)
 }
 
-/// Up to so many further turns, while it has anything to do. Its own work and its agenda take turns.
-#[tactic(auto, using(crate::proofs::rounds::Turning::more_turns))]
-fn more_turns<G: Gate>(
-    cluster: &mut Cluster,
-    place: usize,
-    name: &Name,
-    turns: u32,
-    gate: &G,
-) -> Result<(), OutOfMemory>
-    requires { IsMemberAt cluster.old place name.now }
-    ensures round { TakesRound cluster.old cluster.new }
-    ensures few { DoesAtMost turns name.now cluster.old cluster.new }
-{
-    for turn in 0..turns {
-        if !gated_turn(cluster, place, name, preference_in(turn), gate)? {
-            return Ok(());
-        }
-    }
-    Ok(())
-}
-
 /// A turn, between the gate's two passes, whatever comes of it.
 fn gated_turn<G: Gate>(
     cluster: &mut Cluster,
     place: usize,
     name: &Name,
-    first: Preference,
     gate: &G,
 ) -> Result<bool, OutOfMemory>
     requires { IsMemberAt cluster.old place name.now }
     ensures round { TakesRound cluster.old cluster.new }
     ensures once { DoesAtMost 1 name.now cluster.old cluster.new }
-    ensures begun { first ≡ Preference.Agenda → OnOk result (HasBegun place name.now cluster.old cluster.new) }
+    ensures begun { OnOk result (HasBegun place name.now cluster.old cluster.new) }
 {
     cluster.is_going();
     let who = MemberId(place as u32 + 1);
     gate.pass(who, BEFORE);
-    let did = turn(cluster, place, name, first);
+    let did = agenda_first(cluster, place, name);
     gate.pass(who, AFTER);
     did
 }
 
-/// How a gate is told that a member's turn comes, and that it is over.
-const BEFORE: u8 = 1;
-
-const AFTER: u8 = 2;
-
-/// Every member that runs or has a task takes its turns, one member after another.
-#[tactic(auto, using(crate::proofs::rounds::Turning::rounds))]
-pub(crate) fn round<G: Gate>(cluster: &mut Cluster, turns: u32, gate: &G) -> Result<(), OutOfMemory>
+/// A round: the members take all of their turns but the last side by side, their list cut so many times, and then the
+/// last, in which each may ask of the registrar too, one after another.
+#[tactic(auto, using(crate::proofs::rounds::Turning::round_parts))]
+pub(crate) fn round<T: Threads + Sync, G: Gate>(
+    cluster: &mut Cluster,
+    threads: &T,
+    turns: u32,
+    cuts: u32,
+    gate: &G,
+) -> Result<(), OutOfMemory>
     requires { 1 ≤ turns }
     ensures round { TakesRound cluster.old cluster.new }
     ensures few { EachDoesAtMost turns cluster.old cluster.new }
+    ensures begun { OnOk result ((i : ℕ) (name : List ℕ) → IsMemberAt cluster.old i name
+        → HasBegun i name cluster.old cluster.new) }
+{
+    cluster.side_by_side(threads, gate, turns - 1, cuts)?;
+    last_turns(cluster, gate)?;
+    Ok(())
+}
+
+/// Every member that runs or has a task takes its last turn of a round, one member after another.
+#[tactic(auto, using(crate::proofs::rounds::Turning::rounds))]
+fn last_turns<G: Gate>(cluster: &mut Cluster, gate: &G) -> Result<(), OutOfMemory>
+    ensures round { TakesRound cluster.old cluster.new }
+    ensures once { EachDoesAtMost 1 cluster.old cluster.new }
     ensures begun { OnOk result ((i : ℕ) (name : List ℕ) → IsMemberAt cluster.old i name
         → HasBegun i name cluster.old cluster.new) }
 {
@@ -574,7 +500,7 @@ pub(crate) fn round<G: Gate>(cluster: &mut Cluster, turns: u32, gate: &G) -> Res
     let count = cluster.count();
     for place in 0..count {
         let name = cluster.name_at(place);
-        turns_of(cluster, place, &name, turns, gate)?;
+        last_turn(cluster, place, &name, gate)?;
     }
     Ok(())
 }

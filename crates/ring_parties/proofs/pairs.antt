@@ -4,6 +4,7 @@ pub mod AllShown
 pub mod AllTurns
 pub mod Done
 pub mod Each
+pub mod Halves
 pub mod Moves
 pub mod Names
 pub mod Below

@@ -30,3 +30,4 @@ pub use laws::{
 pub use node::Node;
 pub use parties::Parties;
 pub use refusing::is_passing;
+pub use side_by_side::Round;

@@ -20,6 +20,7 @@ use crate::party::Party;
 use crate::queue::{apply_taken, ask_refusal, carried, message, publish, say_refusal};
 use crate::refusing::{first_item, is_passing};
 use gm_member::MemberFault;
+use ring_io::{AFTER, BEFORE, Gate};
 use ring_names::OutOfMemory;
 use ring_rules::{Asking, Client, Event, Kind, Phase};
 
@@ -310,6 +311,26 @@ fn take_turn(party: &mut Party, next: Option<&Client>, turn: u32) -> Result<Turn
     }
 }
 
+/// A turn of this number, before and after which the gate is passed.
+fn gated_turn<G: Gate>(
+    gate: &G,
+    party: &mut Party,
+    next: Option<&Client>,
+    turn: u32,
+) -> Result<Turn, OutOfMemory>
+    requires may { MayTurn party.old }
+    requires lasts { is_used_up (recorded_of party.old.node) ≡ false }
+    requires room { 0 < spare_of party.old.node }
+    requires own { IfSome next (λ task. asked_of task.now ≡ (held_of party.old.node).name) }
+    ensures { TookTurn (nat_eq turn 0) (option_map (λ task. task.now) next.entry) party.old party.new result }
+{
+    let who = party.node.id();
+    gate.pass(who, BEFORE);
+    let took = take_turn(party, next, turn);
+    gate.pass(who, AFTER);
+    took
+}
+
 /// Whether a member is up.
 fn is_up(node: &Node) -> bool
     ensures up { result ≡ true → (held_of node.now).phase ≡ Up }
@@ -342,8 +363,9 @@ fn counts(turn: Turn, done: &mut usize) -> bool
 }
 
 /// The turns of a party in a round: while it does anything, and at most so many. One that isn't up takes none. `done`
-/// tells how many of its tasks are done or refused by them.
-pub(crate) fn turns_of(
+/// tells how many of its tasks are done or refused by them. Before and after each turn the gate is passed.
+pub(crate) fn turns_of<G: Gate>(
+    gate: &G,
     party: &mut Party,
     tasks: &[Client],
     turns: u32,
@@ -362,7 +384,7 @@ pub(crate) fn turns_of(
         if party.node.spent() {
             return Ok(());
         }
-        let took = take_turn(party, next_task(tasks, *done), turn)?;
+        let took = gated_turn(gate, party, next_task(tasks, *done), turn)?;
         if !counts(took, done) {
             return Ok(());
         }

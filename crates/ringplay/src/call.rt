@@ -104,7 +104,7 @@ fn line_due(alloc: Global, cause: Cause) -> Due
 }
 
 /// What the bytes of an input ask for.
-fn due_to_input<T: Threads, G: Gate>(
+fn due_to_input<T: Threads + Sync, G: Gate>(
     threads: &T,
     alloc: Global,
     asked: Asked,
@@ -129,7 +129,7 @@ fn due_to_input<T: Threads, G: Gate>(
 }
 
 /// Does what the bytes of an input ask for, if they spell it.
-fn done<T: Threads, G: Gate>(
+fn done<T: Threads + Sync, G: Gate>(
     threads: &T,
     alloc: Global,
     asked: Asked,
@@ -148,7 +148,7 @@ fn done<T: Threads, G: Gate>(
     }
 }
 
-fn done_by_script<T: Threads, G: Gate>(
+fn done_by_script<T: Threads + Sync, G: Gate>(
     threads: &T,
     alloc: Global,
     journal: bool,
@@ -190,7 +190,7 @@ fn input_of<S: Source>(alloc: Global, asked: Asked, source: &mut S) -> Result<Ve
 }
 
 /// What is due for these words and this source.
-fn due_for<T: Threads, S: Source, G: Gate>(
+fn due_for<T: Threads + Sync, S: Source, G: Gate>(
     threads: &T,
     alloc: Global,
     words: &[Word],
@@ -227,7 +227,7 @@ fn due_for<T: Threads, S: Source, G: Gate>(
 /// message stands in every running synchronised mirror, through every promotion: each message to the queue that has come
 /// round to its publisher and that nobody has acknowledged or dropped. And whoever leads after the first member
 /// publishes `start` before anything else of the queue.
-pub fn ring_call<T: Threads, S: Source, K: Sink, G: Gate>(
+pub fn ring_call<T: Threads + Sync, S: Source, K: Sink, G: Gate>(
     threads: &T,
     alloc: Global,
     words: &[Word],

@@ -30,7 +30,7 @@ pub(crate) struct Played {
 
 /// Plays the script: the commands on its lines in order, and at its end the ring settles once more. The journal is told
 /// behind the report, where it is to be kept. The text takes over the memory of `old`, which is the script's own.
-pub(crate) fn play<T: Threads, G: Gate>(
+pub(crate) fn play<T: Threads + Sync, G: Gate>(
     threads: &T,
     alloc: Global,
     script: Script,
@@ -63,7 +63,7 @@ pub(crate) fn play<T: Threads, G: Gate>(
 }
 
 /// Plays the load script of so many blocks and this seed. The summary is told of it.
-pub(crate) fn load<T: Threads, G: Gate>(
+pub(crate) fn load<T: Threads + Sync, G: Gate>(
     threads: &T,
     alloc: Global,
     blocks: u32,
@@ -93,7 +93,7 @@ pub(crate) fn load<T: Threads, G: Gate>(
 
 /// Plays what stands on the lines in a ring that opens with these members and this credit: the commands in order, and at
 /// their end the ring settles once more.
-fn play_lines<T: Threads, G: Gate>(
+fn play_lines<T: Threads + Sync, G: Gate>(
     threads: &T,
     alloc: Global,
     names: &[Name],
@@ -113,7 +113,7 @@ fn play_lines<T: Threads, G: Gate>(
 }
 
 /// Performs the commands on the lines, in order.
-fn perform<T: Threads, G: Gate>(
+fn perform<T: Threads + Sync, G: Gate>(
     threads: &T,
     cluster: &mut Cluster,
     lines: Vec<(u32, Command)>,
@@ -132,7 +132,7 @@ fn perform<T: Threads, G: Gate>(
 }
 
 /// Performs one command: a member takes it, or the ring works for so many turns, or settles.
-fn perform_one<T: Threads, G: Gate>(
+fn perform_one<T: Threads + Sync, G: Gate>(
     threads: &T,
     cluster: &mut Cluster,
     command: Command,

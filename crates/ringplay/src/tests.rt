@@ -10,7 +10,8 @@ mod member;
 use crate::call::{Ended, ring_call};
 use crate::cause::Cause;
 use crate::word::Word;
-use ring_io::{MemorySink, MemorySource, ShutGate};
+use ring_io::{Gate, MeetGate, MemorySink, MemorySource, ShutGate};
+use ring_names::MemberId;
 use ring_rules::Event;
 use std::alloc::Global;
 use std::process::Abort;
@@ -292,12 +293,15 @@ members a b c
 
 cast a a1
 cast b b1
-go 3
+settle
 
 cast b b2
+cast b b3
 kill b
 # b refuses what comes behind its kill.
-cast b b3
+cast b b4
+settle
+
 cast a a2
 cast c c1
 settle
@@ -309,17 +313,19 @@ publishes 0 confirmed 0
 heard a a1
 heard a a2
 heard b b1
+heard b b2
 heard c c1
 member b erased
-casts 2 confirmed 1
+casts 3 confirmed 1
 publishes 0 confirmed 0
-refused 12 cast b b3
+refused 12 cast b b4
 member c up synced
 casts 1 confirmed 1
 publishes 0 confirmed 0
 heard a a1
 heard a a2
 heard b b1
+heard b b2
 heard c c1
 ==== examples/burst_then_kill.script
 play
@@ -336,10 +342,6 @@ cast b x6
 cast b x7
 cast b x8
 cast b x9
-cast b x10
-cast b x11
-cast b x12
-go 4
 kill b
 settle
 => Done, status 0
@@ -355,11 +357,8 @@ heard b x5
 heard b x6
 heard b x7
 heard b x8
-heard b x9
-heard b x10
-heard b x11
 member b erased
-casts 12 confirmed 1
+casts 9 confirmed 0
 publishes 0 confirmed 0
 member c up synced
 casts 0 confirmed 0
@@ -372,9 +371,6 @@ heard b x5
 heard b x6
 heard b x7
 heard b x8
-heard b x9
-heard b x10
-heard b x11
 ==== examples/newcomer_killed.script
 play
 # A newcomer is killed before it has taken its first packet, so nothing is asked of it any more. Its neighbours close
@@ -648,14 +644,14 @@ members a b c
 
 cast a a1
 cast b b1
-go 3
+settle
 
 join b n
 cast a a2
 cast b b2
 # What is asked of n waits until it has its state.
 cast n n1
-go 3
+settle
 
 cast c c1
 # The next newcomer is admitted by the first.
@@ -705,8 +701,6 @@ heard o o1
 member o up synced
 casts 1 confirmed 1
 publishes 0 confirmed 0
-heard a a2
-heard b b2
 heard c c1
 heard o o1
 ==== examples/admitter_killed.script
@@ -722,11 +716,13 @@ join b n
 kill b
 # b has stopped by then: it refuses this, and the running member of least id has o join.
 join b o
+# b refuses this too.
+cast b b2
+settle
+
 cast n n1
 cast o o1
 cast c c1
-# b refuses this too.
-cast b b2
 settle
 => Done, status 0
 ring view=7 term=1 master=a
@@ -1948,11 +1944,22 @@ fn words_of(alloc: Global, line: &str) -> Result<Vec<Word>, Fail> {
 }
 
 /// The call of these words on this input.
-fn call<R: Threads + AllocGlobal>(
+fn call<R: Threads + Sync + AllocGlobal>(
     rt: &R,
     words: &str,
     input: Vec<u8>,
     streams: Streams,
+) -> Result<Called, Fail> {
+    call_at(rt, words, input, streams, &ShutGate)
+}
+
+/// The same, where members pass this gate.
+fn call_at<R: Threads + Sync + AllocGlobal, G: Gate>(
+    rt: &R,
+    words: &str,
+    input: Vec<u8>,
+    streams: Streams,
+    gate: &G,
 ) -> Result<Called, Fail> {
     let alloc = rt.alloc();
     let given = words_of(alloc, words)?;
@@ -1963,7 +1970,7 @@ fn call<R: Threads + AllocGlobal>(
     } = streams;
     let mut source = MemorySource::new(input, most, vec![in alloc; read_fails]?);
     let mut sink = MemorySink::new(alloc, 1_048_576, most, vec![in alloc; write_fails]?)?;
-    let ended = ring_call(rt, alloc, &given, &mut source, &mut sink, &ShutGate);
+    let ended = ring_call(rt, alloc, &given, &mut source, &mut sink, gate);
     Ok(Called { ended, sink })
 }
 
@@ -1983,7 +1990,7 @@ fn is_whole(called: &Called) -> bool {
 }
 
 /// How many events happen in a call that ends so, and writes so.
-fn events_of<R: Threads + Abort + AllocGlobal>(
+fn events_of<R: Threads + Sync + Abort + AllocGlobal>(
     rt: &R,
     words: &str,
     input: Vec<u8>,
@@ -1996,7 +2003,7 @@ fn events_of<R: Threads + Abort + AllocGlobal>(
 }
 
 /// How many events happen in the call of a row, which ends as the row wants.
-fn row_events<R: Threads + Abort + AllocGlobal>(rt: &R, row: &str) -> Result<usize, Fail> {
+fn row_events<R: Threads + Sync + Abort + AllocGlobal>(rt: &R, row: &str) -> Result<usize, Fail> {
     let (asked, wanted) = row.split_once("=> ").ok_or("no answer")?;
     let (words, input) = asked.split_once('\n').ok_or("no words")?;
     events_of(rt, words, input.as_bytes().to_vec(rt.alloc())?, wanted)
@@ -2011,7 +2018,7 @@ fn number_in(title: &str) -> usize {
 }
 
 /// Each call of a table ends as its row wants; with the number of events that its title has, where those count.
-fn expect<R: Threads + Abort + AllocGlobal>(
+fn expect<R: Threads + Sync + Abort + AllocGlobal>(
     rt: &R,
     table: &str,
     count_events: bool,
@@ -2028,6 +2035,20 @@ fn expect<R: Threads + Abort + AllocGlobal>(
 #[test]
 fn plays_scripts(rt: HostRuntime) -> Result<(), Fail> {
     expect(&rt, SCRIPTS, false)
+}
+
+/// How often a member looks for another at most, before its first turn.
+const LOOKS: u64 = 200_000_000;
+
+/// Each of the two waits before its first turn until the other's has begun.
+#[test]
+fn members_of_a_script_take_turns_at_the_same_time(rt: HostRuntime) -> Result<(), Fail> {
+    let gate = MeetGate::new(MemberId(1), MemberId(2), LOOKS);
+    let script = b"members a b\ncast a x\ncast b y\n".to_vec(rt.alloc())?;
+    let called = call_at(&rt, "play", script, SOUND, &gate)?;
+    assert_eq!(&rt; called.ended.status, 0);
+    assert!(&rt; gate.met());
+    Ok(())
 }
 
 #[test]
@@ -2128,7 +2149,7 @@ fn ended_lines(bytes: &[u8]) -> u32 {
 
 /// The journal cut after so many bytes is unreadable on the line in which it is cut, unless the cut is at a line's end or
 /// before it.
-fn cut_ends(rt: &(impl Threads + Abort + AllocGlobal), len: usize) -> Result<(), Fail> {
+fn cut_ends(rt: &(impl Threads + Sync + Abort + AllocGlobal), len: usize) -> Result<(), Fail> {
     let Some(front) = JOURNAL.as_bytes().get(..len) else {
         return Err(Fail::from("no such cut"));
     };
@@ -2152,7 +2173,10 @@ fn judges_each_cut_of_a_journal(rt: HostRuntime) -> Result<(), Fail> {
 }
 
 /// What `play --journal` writes of a script is a report, and a journal of which `check` writes the same report.
-fn keeps_its_journal<R: Threads + Abort + AllocGlobal>(rt: &R, script: &str) -> Result<(), Fail> {
+fn keeps_its_journal<R: Threads + Sync + Abort + AllocGlobal>(
+    rt: &R,
+    script: &str,
+) -> Result<(), Fail> {
     let played = call(
         rt,
         "play --journal",

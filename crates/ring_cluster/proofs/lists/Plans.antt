@@ -78,7 +78,7 @@ names_stay plans name ts = by_place (place_among (names_of plans) name) refl
         ∙ set-get_or (names_of plans) i []
 
 -- written twice
-set_twice : {X : Type 0} (xs : List X) (i : ℕ) (y z : X) → set (set xs i y) i z ≡ set xs i z
+pub set_twice : {X : Type 0} (xs : List X) (i : ℕ) (y z : X) → set (set xs i y) i z ≡ set xs i z
 set_twice [] i y z = refl
 set_twice (x ∷ xs) zero y z = refl
 set_twice (x ∷ xs) (suc i) y z = ap (λ zs. x ∷ zs) (set_twice xs i y z)

@@ -2,7 +2,7 @@
 use Rattle.std.proofs.Common.{◌≡◌, ℕ, ◌+◌, ◌≤◌, Bool, true, false, List, [], ◌∷◌, ◌++◌, length, cond, bytes_eq, refl, sym, ap, subst, ◌∙◌, arith, append-nil, append_assoc}
 use Rattle.std.specs.List.{All}
 use Rattle.std.proofs.lemmas.List.{length-append}
-use Rattle.std.proofs.lemmas.List.Elements.{All-nil, All-cons, All-head, All-tail, All-append, filter-append}
+use Rattle.std.proofs.lemmas.List.Elements.{All-nil, All-cons, All-head, All-tail, filter-append}
 use Rattle.std.proofs.lemmas.List.Sums.{length-filter, count_by-le-length}
 use Rattle.ring_rules.specs.declared.event.Event.{Event}
 use Rattle.ring_rules.specs.declared.event.Client.{Client}
@@ -27,9 +27,6 @@ did_task by c d t ts asks s =
     let e : Event = answer_to (state_of c) t in
     (e ∷ [], ap (λ x. x.events) s.1, omega arith, All-cons (λ x. by_of x ≡ by) e [] (answered_by t (refusal (state_of c) (event_of t)) ∙ asks) (All-nil (λ x. by_of x ≡ by)))
 
-pub did_fewer : (m n : ℕ) (name : List ℕ) (c d : Seen) → m ≤ n → DoesAtMost m name c d → DoesAtMost n name c d
-did_fewer m n name c d le h = (h.0, h.1, omega (arith, le, h.2), h.3)
-
 -- where only what is owed changed before
 pub did_later : (n : ℕ) (name : List ℕ) (c d e : Seen) → SameButOwed c d → DoesAtMost n name d e → DoesAtMost n name c e
 did_later n name c d e s h = subst (λ x. DoesAtMost n name x e) s.1 h
@@ -37,14 +34,6 @@ did_later n name c d e s h = subst (λ x. DoesAtMost n name x e) s.1 h
 -- of one that was named otherwise
 pub did_named : (n : ℕ) (name other : List ℕ) (c d : Seen) → name ≡ other → DoesAtMost n name c d → DoesAtMost n other c d
 did_named n name other c d same h = subst (λ x. DoesAtMost n x c d) same h
-
-pub did_more : (m n most : ℕ) (name : List ℕ) (c d e : Seen) → m + n ≤ most → DoesAtMost m name c d → DoesAtMost n name d e → DoesAtMost most name c e
-did_more m n most name c d e le a b = (
-  a.0 ++ b.0,
-  b.1 ∙ ap (λ es. es ++ b.0) a.1 ∙ append_assoc c.events a.0 b.0,
-  omega (arith, le, length-append a.0 b.0, a.2, b.2),
-  All-append (λ x. by_of x ≡ name) a.0 b.0 a.3 b.3,
-)
 
 -- ---- of each
 
@@ -97,3 +86,14 @@ each_none turns c d is = ([], is ∙ sym (append-nil c.events), λ name. omega a
 -- where the events are the same
 pub each_beside : (turns : ℕ) (c c1 d1 d : Seen) → c1.events ≡ c.events → d.events ≡ d1.events → EachDoesAtMost turns c1 d1 → EachDoesAtMost turns c d
 each_beside turns c c1 d1 d before after h = (h.0, after ∙ h.1 ∙ ap (λ es. es ++ h.0) before, h.2)
+
+-- one part behind another
+pub each_more : (m n most : ℕ) (c d e : Seen) → m + n ≤ most → EachDoesAtMost m c d → EachDoesAtMost n d e → EachDoesAtMost most c e
+each_more m n most c d e le a b = (
+  a.0 ++ b.0,
+  b.1 ∙ ap (λ es. es ++ b.0) a.1 ∙ append_assoc c.events a.0 b.0,
+  λ name. omega (arith, le, both_of name a.0 b.0, a.2 name, b.2 name),
+)
+
+pub each_fewer : (m n : ℕ) (c d : Seen) → m ≤ n → EachDoesAtMost m c d → EachDoesAtMost n c d
+each_fewer m n c d le h = (h.0, h.1, λ name. omega (arith, le, h.2 name))

@@ -154,7 +154,7 @@ pub backlog_later : (w w' : World) (plans : List Plan) → KeepsNames w w' → I
 backlog_later w w' plans k n = sum_less (left_on w') (left_on w) plans (λ a. sum_less (cost w') (cost w) a.tasks (cost_later w w' k n))
 
 -- with other tasks on the agenda of a name
-tasks_left : (w : World) (plans : List Plan) (name : List ℕ) (ts : List Client) (i : ℕ) → place_among (names_of plans) name ≡ Some i → backlog w (with_found plans (Some i) ts) + sum_by (cost w) (tasks_found plans (Some i)) ≡ backlog w plans + sum_by (cost w) ts
+pub tasks_left : (w : World) (plans : List Plan) (name : List ℕ) (ts : List Client) (i : ℕ) → place_among (names_of plans) name ≡ Some i → backlog w (with_found plans (Some i) ts) + sum_by (cost w) (tasks_found plans (Some i)) ≡ backlog w plans + sum_by (cost w) ts
 tasks_left w plans name ts i e =
     let b : Plan = record (plan_at plans i) { tasks = ts } in
     omega (arith, sum_by-set (left_on w) plans i b (plan_at [] 0) (found_at plans name i e).0)

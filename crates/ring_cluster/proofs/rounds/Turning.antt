@@ -12,12 +12,12 @@ use Rattle.ring_rules.specs.Work.{total}
 use Rattle.ring_cluster.specs.Seen.{Seen, state_of, IsGoing, SameButOwed, with_event}
 use Rattle.ring_cluster.specs.Backlog.{backlog_of}
 use Rattle.ring_cluster.specs.Plays.{agenda_of, answer_to, takes_up, is_due, IsDue, passes, LeavesAgenda, begun_by, SameGiven, HasBegun}
-use Rattle.ring_cluster.specs.Turns.{Works, TakesRound, IsMemberAt, MembersStay, RestsAt, StartsFirst, DoesAtMost}
+use Rattle.ring_cluster.specs.Turns.{Works, TakesRound, IsMemberAt, MembersStay, RestsAt, StartsFirst}
 use Rattle.ring_cluster.proofs.deposits.Owed.{but_refl, but_trans}
 use Rattle.ring_cluster.proofs.rounds.Playing.{HasGoneOn-refl, HasGoneOn-collecting, HasGoneOn-trans}
 use Rattle.ring_cluster.proofs.rounds.Members.{found_in, event_stay, event_begun}
 use Rattle.ring_cluster.proofs.rounds.Passing.{passing_starts}
-use Rattle.ring_cluster.proofs.rounds.Counting.{did_task, did_none, did_fewer, did_later, did_more, few_none, few_more, few_each}
+use Rattle.ring_cluster.proofs.rounds.Counting.{did_none, did_later, few_none, few_more, few_each, each_more, each_fewer}
 use Rattle.ring_cluster.proofs.rounds.Doing.{Performs, own_falls, own_goes, own_left, performed_goes, performed_more, performed_less, asked_begun, begun_more_by, started_more, due_still}
 
 pub given_refl : (c : Seen) → SameGiven c c
@@ -163,6 +163,10 @@ begun_more k at c d e b m t h = record {
 pub all_begun : (k : ℕ) (c d : Seen) → k + 1 ≡ size (state_of c) → BegunBelow k c d → (i : ℕ) (name : List ℕ) → IsMemberAt c i name → HasBegun i name c d
 all_begun k c d many b i name at = b.begun i name (omega (arith, many, at.0)) at
 
+-- and once all have in the second part of a round, they have in the whole
+pub parts_begun : (c d e : Seen) → TakesRound c d → TakesRound d e → ((i : ℕ) (name : List ℕ) → IsMemberAt d i name → HasBegun i name d e) → (i : ℕ) (name : List ℕ) → IsMemberAt c i name → HasBegun i name c e
+parts_begun c d e a b begun i name at = begun_later i name c d e at a (begun i name (a.stay i name at)) b
+
 -- ---- a pass
 
 -- Members before the place k did something, or none did: then all stays, and each of them rests. What is done is of the kind Does,
@@ -226,10 +230,6 @@ pub performed_or : (i : ℕ) (by : List ℕ) (c d : Seen) (did : Bool) → IsGoi
 performed_or i by c d true g at does rests = performed_round i by c d g at (does refl)
 performed_or i by c d false g at does rests = works_round c d (works_same c d (rests refl).0)
 
-pub performed_once : (i : ℕ) (by : List ℕ) (c d : Seen) (did : Bool) → (did ≡ true → Performs i by c d) → (did ≡ false → SameButOwed c d × LeavesAgenda c by) → DoesAtMost 1 by c d
-performed_once i by c d true does rests = let p = does refl in did_task by c d p.0 p.1 p.3 p.5
-performed_once i by c d false does rests = did_none 1 by c d (rests refl).0
-
 pub rests_named : (i : ℕ) (by : List ℕ) (c d : Seen) → IsMemberAt c i by → SameButOwed c d × LeavesAgenda c by → SameButOwed c d × RestsFrom c i
 rests_named i by c d at h = (h.0, λ name m. subst (LeavesAgenda c) (sym at.1 ∙ m.1) h.1)
 
@@ -241,8 +241,11 @@ pub ruleset own_step = (own_falls, own_works, works_same)
 -- what a turn does
 pub ruleset one_turn = (performed_round, performed_begun, works_round, left_begun, works_same, did_none, did_later)
 
--- what turns one after another do
-pub ruleset more_turns = (round_trans, round_refl, begun_still, did_none, did_fewer, did_more)
+-- what a last turn does
+pub ruleset last_turn = (round_refl, empty_begun, did_none)
+
+-- what both parts of a round do
+pub ruleset round_parts = (round_trans, parts_begun, each_more, each_fewer)
 
 -- what a round does
 pub ruleset rounds = (begun_more, begun_none, round_trans, all_begun, few_none, few_more, few_each)

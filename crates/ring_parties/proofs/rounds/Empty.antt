@@ -1,6 +1,5 @@
 -- A round in which nobody does anything is closed from the beginning.
-use Rattle.std.proofs.Common.{◌≡◌, ℕ, ◌-◌, ◌<◌, ◌≤◌, Bool, true, false, cond, nat_lt, List, [], length, map, Some, refl, sym, ap, ◌∙◌, arith, append-nil}
-use Rattle.std.specs.Prelude.{◌||◌}
+use Rattle.std.proofs.Common.{◌≡◌, ℕ, ◌-◌, ◌<◌, ◌≤◌, true, cond, nat_lt, List, [], length, map, Some, refl, sym, ap, ◌∙◌, arith, append-nil}
 use Rattle.std.proofs.lemmas.Bool.{and_parts, ltb-true}
 use Rattle.ring_rules.specs.Machine.{World, link_at}
 use Rattle.ring_rules.specs.Step.{size}
@@ -13,12 +12,9 @@ use Rattle.ring_parties.specs.Standing.{Places, MemberStands, Stand, has_in, has
 use Rattle.ring_parties.specs.Round.{Configuration}
 use Rattle.ring_parties.specs.Seated.{seat_of, has_in_at, items_known, grants_known, seated}
 use Rattle.ring_parties.specs.Closed.{ShowsSeat, may_take, LinkCloses, TookTurnsByEnds, HasClosed}
+use Rattle.ring_parties.proofs.lists.Truth.{or_nothing}
 use Rattle.ring_parties.proofs.rounds.Acts.{things-early}
 use Rattle.ring_parties.proofs.rounds.Seated.{seat_door}
-
-or_nothing : (b : Bool) → b ≡ (b || false)
-or_nothing true = refl
-or_nothing false = refl
 
 module _ (initial : ℕ) (w : World) (q : Parties) (ks : List Keeps) (st : Stand initial w q) (keeps : KeepsStand w ks) where
   abbrev p : Places

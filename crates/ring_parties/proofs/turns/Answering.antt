@@ -1,37 +1,18 @@
 -- Of the merge of a round each member's events are those of its log.
-use Rattle.std.proofs.Common.{◌≡◌, ◌≢◌, ⊎_elim, ℕ, true, false, cond, List, [], ◌∷◌, map, Option, Some, None, refl, sym, ap, subst, ◌∙◌}
+use Rattle.std.proofs.Common.{◌≡◌, ◌≢◌, ⊎_elim, ℕ, true, false, cond, List, [], ◌∷◌, map, refl, sym, ap, subst, ◌∙◌}
 use Rattle.std.specs.Prelude.{bytes_eq}
 use Rattle.std.proofs.lemmas.Bool.{cases_eq, false_from_ne_true}
 use Rattle.lamport_merge.specs.Merge.{Entry, Log, own, merged, AreLogs}
 use Rattle.lamport_merge.proofs.Merging.{own_here, own_past}
-use Rattle.ring_rules.specs.declared.kind.LinkStep.TheVariants as step
-use Rattle.ring_rules.specs.Kind.{Kind, Says, Steps, Changes, Stops, Reads, Tells, kind_of}
+use Rattle.ring_rules.specs.Kind.{kind_of}
 use Rattle.ring_rules.specs.Event.{by_of}
 use Rattle.ring_rules.proofs.events.Names.{same_bytes, own_bytes}
-use Rattle.gm_member.specs.Held.{Held, at_some, first_at_door, picked_at}
-use Rattle.ring_parties.specs.Round.{Seat, Deed, Did, IsLocalRun, entries_by, events_in}
+use Rattle.ring_parties.specs.Round.{Seat, Deed, IsLocalRun, entries_by, events_in}
 use Rattle.ring_parties.specs.Turns.{events_of}
 use Rattle.ring_parties.proofs.rounds.Parts.{Each, own_is_by}
-use Rattle.ring_parties.proofs.turns.Named.{names_took}
+use Rattle.ring_parties.proofs.turns.Names.{did_name}
 
 -- ---- names
-
-picked_by : (h : Held) (o : Option ℕ) → (at_some o h (picked_at h)).name ≡ h.name
-picked_by h None = refl
-picked_by h (Some i) = refl
-
--- a member has its name after what it does
-did_name : (k : Kind) (t : ℕ) (d : Deed) (a b : Seat) → Did k t d a b → b.held.name ≡ a.held.name
-did_name (Says s) t d a b h = ap (λ (m : Seat). m.held.name) h.3
-did_name (Steps step.Put) t d a b h = ap (λ (m : Seat). m.held.name) h.7
-did_name (Steps step.Take) t d a b h = ap (λ (m : Seat). m.held.name) h.8 ∙ (names_took a.held h.0).name
-did_name (Steps step.TakeEnd) t d a b h = ap (λ (m : Seat). m.held.name) h.5
-did_name (Steps step.Gain) t d a b h = ap (λ (m : Seat). m.held.name) h.6
-did_name (Steps step.Pick) t d a b h = ap (λ (m : Seat). m.held.name) h.4 ∙ picked_by a.held (first_at_door a.held)
-did_name Stops t d a b h = ap (λ (m : Seat). m.held.name) h.3
-did_name (Tells code inner) t d a b h = ap (λ (m : Seat). m.held.name) h.1
-did_name (Changes c) t d a b h = absurd h
-did_name (Reads version) t d a b h = absurd h
 
 -- the entries of its log are of its name
 pub local_named : (es : List (ℕ × Deed)) (a b : Seat) (name : List ℕ) → a.held.name ≡ name → IsLocalRun es a b → Each (λ e. by_of e.1.event ≡ name) es

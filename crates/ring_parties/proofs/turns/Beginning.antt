@@ -22,6 +22,7 @@ use Rattle.ring_parties.specs.Standing.{Places, MemberStands, Stand, name_of, ha
 use Rattle.ring_parties.specs.Acting.{IsReady, IsBooked}
 use Rattle.ring_parties.specs.Pairing.{IsAt, ArePaired, OutMeets, InMeets, MayMeetPairs, HaveMetPairs}
 use Rattle.ring_parties.specs.Turn.{MayTurn}
+use Rattle.ring_parties.proofs.lists.Truth.{some_is, made_some, from_map, from_none}
 use Rattle.ring_parties.proofs.standing.Placing.{GoBetween, current_has, name_is_unique, name_stands, stands_named}
 use Rattle.ring_rules.proofs.walks.OpenWalk.{place_is}
 use Rattle.activity.specs.declared.packet.Load.{Load}
@@ -57,21 +58,6 @@ may_turn r ready booked free up beside = record {
   returned = ready.returned;
   booked = booked.last;
 }
-
-some_is : {X : Type 0} {x y : X} → Some x ≡ Some y → x ≡ y
-some_is e = cc
-
-is_some_map : {X Y : Type 0} (f : X → Y) (o : Option X) → is_some (option_map f o) ≡ is_some o
-is_some_map f None = refl
-is_some_map f (Some x) = refl
-
-from_none : {X Y : Type 0} (f : X → Y) (o : Option X) → option_map f o ≡ None → o ≡ None
-from_none f None e = refl
-from_none f (Some x) e = cc
-
-from_map : {X Y : Type 0} (f : X → Y) (o : Option X) (y : Y) → option_map f o ≡ Some y → (x : X) × (o ≡ Some x) × (f x ≡ y)
-from_map f None y e = cc
-from_map f (Some x) y e = (x, refl, some_is e)
 
 -- ---- parties that stand
 
@@ -132,10 +118,10 @@ module _ (credit : CreditSpec) (w : World) (q : Parties) (st : Stand credit.init
     to = λ i r name at e. let f = out_link i r name at e in subst (λ (n : LinkName). 1 ≤ n.to.0) (sym f.4) (go.receiver f.0 f.2).0;
     outs = λ i r at.
         let h = stands i r at in
-        ap (λ (g : Held). is_some g.out) h.held ∙ is_some_map (outgoing_in w) (member_at w (i + 1)).out ∙ sym (is_some_map p.outs (member_at w (i + 1)).out) ∙ ap is_some (sym h.out) ∙ is_some_map out_seen (ends_of r.node).out;
+        ap (λ (g : Held). is_some g.out) h.held ∙ made_some (outgoing_in w) (member_at w (i + 1)).out ∙ sym (made_some p.outs (member_at w (i + 1)).out) ∙ ap is_some (sym h.out) ∙ made_some out_seen (ends_of r.node).out;
     links = λ i r at.
         let h = stands i r at in
-        ap (λ (g : Held). is_some g.current) h.held ∙ is_some_map (incoming_in w) (member_at w (i + 1)).current ∙ sym (is_some_map p.ins (member_at w (i + 1)).current) ∙ ap is_some (sym h.link) ∙ is_some_map in_seen (ends_of r.node).link;
+        ap (λ (g : Held). is_some g.current) h.held ∙ made_some (incoming_in w) (member_at w (i + 1)).current ∙ sym (made_some p.ins (member_at w (i + 1)).current) ∙ ap is_some (sym h.link) ∙ made_some in_seen (ends_of r.node).link;
     fits = λ i j a b o n ia jb pair eo en.
         let f = out_link i a pair.0 ia pair.1 in
         let s : ℕ = f.0 in

@@ -17,6 +17,7 @@ use Rattle.ring_parties.specs.Keeps.{own_known}
 use Rattle.ring_parties.specs.Round.{Seat}
 use Rattle.ring_parties.specs.Pairing.{IsAt, EachParty, OutMeets, InMeets, Meets, MayMeetPairs, IsHeardIf}
 use Rattle.ring_parties.specs.Turn.{OutsPass, InsPass, round_of, MayTurn, SitsAt, Turned, TakesTurns}
+use Rattle.ring_parties.proofs.lists.Truth.{some_is, made_some}
 use Rattle.ring_parties.proofs.standing.Rings.{none_waiting}
 use Rattle.ring_parties.proofs.turns.Balance.{out_kept, in_kept}
 use Rattle.ring_parties.proofs.turns.Places.{party_at}
@@ -59,10 +60,6 @@ may_unmarked all r r' m h = record {
 
 -- ---- ends that may meet again
 
-some_map : {X Y : Type 0} (f : X → Y) (o : Option X) → is_some (option_map f o) ≡ is_some o
-some_map f None = refl
-some_map f (Some x) = refl
-
 -- A party has its id, its links have their names, and their ends are of the same rings.
 pub record KeepsLinks (r r' : Party) : Type 0 where
   pub id : (held_of r'.node).id ≡ (held_of r.node).id
@@ -83,9 +80,6 @@ keeps_still r r' e = record {
   out_end = λ o' k. (o', ap (λ (z : Party). (ends_of z.node).out) (sym e) ∙ k, refl, refl);
   in_end = λ n' k. (n', ap (λ (z : Party). (ends_of z.node).link) (sym e) ∙ k, refl, refl);
 }
-
-some_is : {X : Type 0} {x y : X} → Some x ≡ Some y → x ≡ y
-some_is e = cc
 
 outs_many : (round : ℕ) (put : _) (gained : _) (a b : Option (RingOut Load)) → OutsPass round put gained a b → is_some b ≡ is_some a
 outs_many round put gained None b h = ap is_some h.0
@@ -118,7 +112,7 @@ abbrev seat_for : Party → Seat
 seat_for r = record { held = held_of r.node; keeps = keeps_in r; out = option_map (λ _. 0) (held_of r.node).out; current = option_map (λ _. 0) (held_of r.node).current; door = [] }
 
 sits_there : (r : Party) → SitsAt (seat_for r) r
-sits_there r = record { held = refl; keeps = refl; out = some_map (λ _. 0) (held_of r.node).out; current = some_map (λ _. 0) (held_of r.node).current }
+sits_there r = record { held = refl; keeps = refl; out = made_some (λ _. 0) (held_of r.node).out; current = made_some (λ _. 0) (held_of r.node).current }
 
 pub keeps_turned : (r r' : Party) → TakesTurns r r' → KeepsLinks r r'
 keeps_turned r r' h =
@@ -138,8 +132,8 @@ pub meet_again : (ps qs : List Party) → EachParty (λ _ r r'. KeepsLinks r r')
 meet_again ps qs each h = record {
   ids = λ i r at. let b = was i r at in (keeps i r at).id ∙ h.ids i b.0 b.1;
   to = λ i r name at e. let b = was i r at in h.to i b.0 name b.1 (sym (keeps i r at).out_named ∙ e);
-  outs = λ i r at. let b = was i r at in sym (some_map _ (held_of r.node).out) ∙ ap is_some (keeps i r at).out_named ∙ some_map _ (held_of b.0.node).out ∙ h.outs i b.0 b.1 ∙ sym (keeps i r at).outs;
-  links = λ i r at. let b = was i r at in sym (some_map _ (held_of r.node).current) ∙ ap is_some (keeps i r at).in_named ∙ some_map _ (held_of b.0.node).current ∙ h.links i b.0 b.1 ∙ sym (keeps i r at).links;
+  outs = λ i r at. let b = was i r at in sym (made_some _ (held_of r.node).out) ∙ ap is_some (keeps i r at).out_named ∙ made_some _ (held_of b.0.node).out ∙ h.outs i b.0 b.1 ∙ sym (keeps i r at).outs;
+  links = λ i r at. let b = was i r at in sym (made_some _ (held_of r.node).current) ∙ ap is_some (keeps i r at).in_named ∙ made_some _ (held_of b.0.node).current ∙ h.links i b.0 b.1 ∙ sym (keeps i r at).links;
   fits = λ i j x y o' n' ix jy pair eo en.
       let bx = was i x ix in
       let by' = was j y jy in

@@ -25,10 +25,11 @@ use Rattle.ring_parties.specs.Parties.{ANode, keeps_in, out_seen, in_seen}
 use Rattle.ring_parties.specs.RoundActs.{Stamped, pop}
 use Rattle.ring_parties.specs.Round.{Seat, Deed}
 use Rattle.ring_parties.specs.Turn.{time_at, timed_grant, timed_items, timed_grants, OutPasses, OutsPass, MayTurn, HasEarlyGrant, TakesTurns, Acted}
+use Rattle.ring_parties.proofs.lists.Truth.{made_some}
 use Rattle.ring_parties.proofs.standing.Rings.{pair_out, out_items_same}
 use Rattle.ring_parties.proofs.standing.Shown.{end_there, returned_there}
 use Rattle.ring_parties.proofs.turns.Named.{names_gained}
-use Rattle.ring_parties.proofs.turns.Links.{place_of, some_map, none_here, pop_puts, pop_takes, met_time, after_met, any_some, in_rests, none_waits, is_open, ends_but, acted_one}
+use Rattle.ring_parties.proofs.turns.Links.{place_of, none_here, pop_puts, pop_takes, met_time, after_met, any_some, in_rests, none_waits, is_open, ends_but, acted_one}
 
 -- what passes the end
 gain_passes : (round : ℕ) (o p : RingOut Load) (grant : Grant) → RingGains o grant p → OutPasses round [] (timed_grant round grant ∷ []) o p
@@ -105,7 +106,7 @@ gain_turns grant p kept q h a sits =
         sits = record {
           held = ap (λ x. gained_held x grant.amount) sits.held ∙ sym h.held;
           keeps = sits.keeps ∙ sym h.keeps;
-          out = sits.out ∙ sym (some_map (gained_on grant.amount) (held_of p.node).out) ∙ ap (λ x. is_some x.out) (sym h.held);
+          out = sits.out ∙ sym (made_some (gained_on grant.amount) (held_of p.node).out) ∙ ap (λ x. is_some x.out) (sym h.held);
           current = sits.current ∙ ap (λ x. is_some x.current) (sym h.held);
         };
         same_out = refl;

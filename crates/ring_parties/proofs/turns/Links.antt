@@ -35,10 +35,6 @@ pub place_of : (o : Option ℕ) → is_some o ≡ true → (s : ℕ) × (o ≡ S
 place_of None e = cc
 place_of (Some s) e = (s, refl)
 
-pub some_map : {A B : Type 0} (f : A → B) (o : Option A) → is_some (option_map f o) ≡ is_some o
-some_map f None = refl
-some_map f (Some a) = refl
-
 -- nothing is done, here or there
 pub none_here : {X : Type 0} (b : Bool) → (let none : List X = [] in none ≡ cond b none none)
 none_here true = refl

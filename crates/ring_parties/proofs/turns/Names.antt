@@ -31,7 +31,7 @@ picked_name h = by_place (first_at_door h)
     by_place None = refl
     by_place (Some i) = refl
 
-did_name : (kind : Kind) (t : ℕ) (d : Deed) (a b : Seat) → Did kind t d a b → b.held.name ≡ a.held.name
+pub did_name : (kind : Kind) (t : ℕ) (d : Deed) (a b : Seat) → Did kind t d a b → b.held.name ≡ a.held.name
 did_name (Says y) t d a b (m, ok, says, is, none) = ap (λ (c : Seat). c.held.name) is
 did_name (Steps step.Put) t d a b (out, k, stamp, held_out, on, ok, after, is, there, back) = ap (λ (c : Seat). c.held.name) is
 did_name (Steps step.Take) t d a b (q, k, stamp, given, on, ok, later, after, is, there, back) = ap (λ (c : Seat). c.held.name) is ∙ took_name a.held q

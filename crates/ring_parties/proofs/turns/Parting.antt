@@ -13,7 +13,7 @@ use Rattle.ring_parties.specs.declared.party.Party.{Party}
 use Rattle.ring_parties.specs.Pairing.{IsAt, EachParty, MayMeetPairs, HaveMetPairs, IsHeardIf, Meets}
 use Rattle.ring_parties.specs.Turn.{MayTurn, TakesTurns}
 use Rattle.ring_parties.specs.Turns.{TakesItsRound}
-use Rattle.ring_parties.specs.Played.{AreTasks}
+use Rattle.ring_parties.specs.Played.{AreTasks, MayTakeTurns, TakeTheirTurns}
 use Rattle.ring_parties.proofs.turns.Between.{may_still, may_unmarked, KeepsLinks, keeps_still, keeps_turned, meet_again}
 use Rattle.ring_parties.proofs.turns.Places.{party_at}
 use Rattle.ring_parties.proofs.turns.Sides.{TakesPart}
@@ -57,19 +57,24 @@ module _ (ps qs hs : List Party) (met : HaveMetPairs ps qs) (hear : EachParty (�
   held_there : (i : ℕ) (r : Party) (at : IsAt hs i r) → held_of r.node ≡ held_of (first_at i r at).0.node
   held_there i r at = ap held_of (hears_there i r at).node ∙ (meets_there i r at).held
 
-  pub may_heard : ((i : ℕ) (r : Party) → IsAt ps i r → (held_of r.node).phase ≡ phase.Up → MayTurn r) → (i : ℕ) (r : Party) → IsAt hs i r → r.meets ≡ true → (held_of r.node).phase ≡ phase.Up → MayTurn r
+  may_heard : ((i : ℕ) (r : Party) → IsAt ps i r → (held_of r.node).phase ≡ phase.Up → MayTurn r) → (i : ℕ) (r : Party) → IsAt hs i r → r.meets ≡ true → (held_of r.node).phase ≡ phase.Up → MayTurn r
   may_heard may i r at marked up =
       may_unmarked qs (met_at i r at).0 r (hears_there i r at)
       (may_still (first_at i r at).0 (met_at i r at).0 (meets_there i r at)
       (may i (first_at i r at).0 (first_at i r at).1 (ap (λ (g : Held). g.phase) (sym (held_there i r at)) ∙ up)))
 
-  pub room_heard : (turns : ℕ) → ((i : ℕ) (r : Party) → IsAt ps i r → turns ≤ spare_of r.node) → (i : ℕ) (r : Party) → IsAt hs i r → turns ≤ spare_of r.node
+  room_heard : (turns : ℕ) → ((i : ℕ) (r : Party) → IsAt ps i r → turns ≤ spare_of r.node) → (i : ℕ) (r : Party) → IsAt hs i r → turns ≤ spare_of r.node
   room_heard turns room i r at =
       subst (λ n. turns ≤ n) (sym (ap (λ c. spare_of c) (hears_there i r at).node ∙ ap (λ c. c.spare) (meets_there i r at).recorder)) (room i (first_at i r at).0 (first_at i r at).1)
 
-  pub tasks_heard : (tasks : List (List Client)) → AreTasks ps tasks → AreTasks hs tasks
+  tasks_heard : (tasks : List (List Client)) → AreTasks ps tasks → AreTasks hs tasks
   tasks_heard tasks are i r ts at there =
       subst (λ n. All (λ t. asked_of t ≡ n) ts) (ap (λ (g : Held). g.name) (sym (held_there i r at))) (are i (first_at i r at).0 ts (first_at i r at).1 there)
+
+  -- those that are heard may take their turns
+  pub may_take : (turns : ℕ) (tasks : List (List Client)) → ((i : ℕ) (r : Party) → IsAt ps i r → (held_of r.node).phase ≡ phase.Up → MayTurn r)
+      → ((i : ℕ) (r : Party) → IsAt ps i r → turns ≤ spare_of r.node) → AreTasks ps tasks → MayTakeTurns turns tasks hs
+  may_take turns tasks may room are = record { may = may_heard may; room = room_heard turns room; own = tasks_heard tasks are }
 
   links_heard : (r r' : Party) → IsHeardIf qs r r' → KeepsLinks r r'
   links_heard r r' m = record {
@@ -84,15 +89,15 @@ module _ (ps qs hs : List Party) (met : HaveMetPairs ps qs) (hear : EachParty (�
 
   -- behind their turns ends may meet again
   pub meet_later : (turns : ℕ) (tasks : List (List Client)) (done : List ℕ) (rs : List Party) → length tasks ≡ length ps → length done ≡ length ps → MayMeetPairs qs
-      → EachParty (λ i r r'. (ts : List Client) (d : ℕ) → slice_get tasks i ≡ Some ts → slice_get done i ≡ Some d → TakesItsRound turns ts d r r') hs rs → MayMeetPairs rs
+      → TakeTheirTurns turns tasks done hs rs → MayMeetPairs rs
   meet_later turns tasks done rs many as_many may turn =
       meet_again hs rs
       (record {
-        count = turn.count;
+        count = turn.all.count;
         each = λ i r r' at at'.
             let l : i < length hs = slice_get_within hs i r at in
             let ts = at_list tasks i (omega (arith, l, count_heard, many)) in
             let d = at_list done i (omega (arith, l, count_heard, as_many)) in
-            keeps_part r r' (takes_part_by turns ts.0 d.0 r r' r.meets refl (held_of r.node).phase refl (turn.each i r r' at at' ts.0 d.0 ts.1 d.1));
+            keeps_part r r' (takes_part_by turns ts.0 d.0 r r' r.meets refl (held_of r.node).phase refl (turn.all.each i r r' at at' ts.0 d.0 ts.1 d.1));
       })
       (meet_again qs hs (record { count = hear.count; each = λ i r r' at at'. links_heard r r' (hear.each i r r' at at') }) may)

@@ -3,7 +3,6 @@ use Rattle.std.proofs.Common.{◌≡◌, ℕ, Bool, true, false, cond, List, [],
 use Rattle.std.specs.Prelude.{MatchOption, ⊤, option_map, ◌||◌}
 use Rattle.std.proofs.lemmas.List.{map-append}
 use Rattle.rtrb.specs.Ring.{sent, received as got, known_items}
-use Rattle.ordered_link.specs.declared.grant.Grant.{Grant}
 use Rattle.ordered_link.specs.declared.ring.RingOut.{RingOut}
 use Rattle.ordered_link.specs.declared.ring.RingIn.{RingIn}
 use Rattle.activity.specs.declared.packet.Load.{Load}
@@ -15,11 +14,12 @@ use Rattle.gm_member.specs.View.{in_of}
 use Rattle.gm_member.specs.declared.links.InLink.{InLink}
 use Rattle.ring_parties.specs.declared.party.Party.{Party}
 use Rattle.ring_parties.specs.Ends.{PacketShown, InSeen}
-use Rattle.ring_parties.specs.Parties.{in_seen, amount_of}
+use Rattle.ring_parties.specs.Parties.{in_seen}
 use Rattle.ring_parties.specs.RoundActs.{Stamped, acts_at, timed, things, puts, takes}
 use Rattle.ring_parties.specs.Round.{Seat, Deed, IsLocalRun, items_at, grants_at}
 use Rattle.ring_parties.specs.Turn.{timed_items, timed_grants, OutPasses, InPasses, Rests, OutsPass, InsPass, MayTurn, SitsAt, Turned, Acted, events_by, round_of}
 use Rattle.ring_parties.specs.Closed.{has_end}
+use Rattle.ring_parties.proofs.standing.Rings.{none_waiting}
 use Rattle.ring_parties.proofs.rounds.Acts.{puts-append, takes-append}
 use Rattle.ring_parties.proofs.rounds.Ended.{has_end-append}
 use Rattle.ring_parties.proofs.turns.Named.{names_none, names_trans}
@@ -120,11 +120,6 @@ module _ (round : ℕ) where
       let k' = subst (λ (x : Option (RingIn Load)). InsPass round taken' given' x c) is k in
       (k'.0, k'.1, in_then taken taken' given given' n n' k'.0 passes k'.2)
 
--- no grant waits with an end that shows none
-pub none_waits : (late : Option Grant) → amount_of late ≡ None → late ≡ None
-none_waits None e = refl
-none_waits (Some g) e = cc
-
 -- an end of a member that is there, where no grant waits
 ins_free : (round : ℕ) (current : Option (InLink (RingIn Load))) → MatchOption (option_map in_of current) ⊤ (λ _. MatchOption (option_map in_seen (at_some current None (λ l. l.end))) ⊥ (λ (n : InSeen). n.late ≡ None)) → InsPass round [] [] (at_some current None (λ l. l.end)) (at_some current None (λ l. l.end))
 ins_free round None h = (refl, refl, refl)
@@ -132,7 +127,7 @@ ins_free round (Some l) h = by_end l.end h
   where
     by_end : (end : Option (RingIn Load)) → MatchOption (option_map in_seen end) ⊥ (λ (n : InSeen). n.late ≡ None) → InsPass round [] [] end end
     by_end None k = absurd k
-    by_end (Some n) k = (n, refl, in_still round n (none_waits n.late k))
+    by_end (Some n) k = (n, refl, in_still round n (none_waiting n.late k))
 
 pub ins_still : (round : ℕ) (p : Party) → MayTurn p → InsPass round [] [] (ends_of p.node).link (ends_of p.node).link
 ins_still round p may = ins_free round p.node.current may.link

@@ -28,6 +28,7 @@ use Rattle.ring_parties.specs.Turn.{MayTurn, events_by}
 use Rattle.ring_parties.specs.Turns.{SameShown, Begun, TakesRound, TakesItsRound, HasTaken, HaveTaken, tasks_at, events_of, AreAskedOf, log_by}
 use Rattle.ring_parties.specs.Acting.{IsReady, IsBooked}
 use Rattle.ring_parties.specs.Played.{name_by, AreTasks, with_nodes, HavePlayed}
+use Rattle.ring_parties.proofs.lists.Truth.{some_is}
 use Rattle.ring_parties.proofs.standing.Placing.{GoBetween, current_has}
 use Rattle.ring_parties.proofs.standing.Rings.{none_waiting}
 use Rattle.ring_parties.proofs.events.After.{free_after, ready_after, booked_after}
@@ -199,9 +200,6 @@ module _ (credit : CreditSpec) (names : List (List ℕ)) (events : List Event) (
               let c : Carries w credit.initial (link_at w s) (h.stand.places.outs s) (h.stand.places.ins s) = h.stand.stand.carry s own.0 (current_has w (i + 1) s lawful.fit.own_ends k) in
               let is : in_seen n ≡ h.stand.places.ins s = some_is (link ∙ stands.link ∙ ap (option_map h.stand.places.ins) k) in
               none_waiting n.late (ap (λ (z : InSeen). z.late) is ∙ c.late)
-            where
-              some_is : {X : Type 0} {x y : X} → Some x ≡ Some y → x ≡ y
-              some_is k = cc
 
       pub begins_round : BeginsRound number q (map keeps_in ps) heard
       begins_round = record {
@@ -235,11 +233,11 @@ module _ (credit : CreditSpec) (names : List (List ℕ)) (events : List Event) (
       done_there i r at = at_list done i (let l : i < length heard = slice_get_within heard i r at in omega (arith, l, played.hear.count, played.first.stay.count, begun.count, as_many))
 
       its_round : (i : ℕ) (r r' : Party) (at : IsAt heard i r) → IsAt turned i r' → TakesItsRound turns (tasks_there i r at).0 (done_there i r at).0 r r'
-      its_round i r r' at at' = played.turn.each i r r' at at' (tasks_there i r at).0 (done_there i r at).0 (tasks_there i r at).1 (done_there i r at).1
+      its_round i r r' at at' = played.turn.all.each i r r' at at' (tasks_there i r at).0 (done_there i r at).0 (tasks_there i r at).1 (done_there i r at).1
 
       pub takes_part : EachParty (λ _ r r'. TakesPart r r') heard turned
       takes_part = record {
-        count = played.turn.count;
+        count = played.turn.all.count;
         each = λ i r r' at at'. takes_part_by turns (tasks_there i r at).0 (done_there i r at).0 r r' r.meets refl (held_of r.node).phase refl (its_round i r r' at at');
       }
 
@@ -250,7 +248,7 @@ module _ (credit : CreditSpec) (names : List (List ℕ)) (events : List Event) (
       at_turned j r at = party_at turned j (let l : j < length vs = slice_get_within vs j r at in omega (arith, l, played.last.stay.count))
 
       before_turn : (j : ℕ) (r : Party) → IsAt turned j r → (b : Party) × IsAt heard j b
-      before_turn j r at = party_at heard j (let l : j < length turned = slice_get_within turned j r at in omega (arith, l, played.turn.count))
+      before_turn j r at = party_at heard j (let l : j < length turned = slice_get_within turned j r at in omega (arith, l, played.turn.all.count))
 
       -- of a party its events in the round, and how it has answered by them
       pub record Answered (i : ℕ) (t : Party) : Type 0 where
@@ -304,7 +302,7 @@ module _ (credit : CreditSpec) (names : List (List ℕ)) (events : List Event) (
       pub room_for_all : sum_by (λ (l : Log Event). length l.entries) (map log_by vs) ≤ length ps * turns
       room_for_all =
           let few : sum_by (λ (l : Log Event). length l.entries) (map log_by vs) ≤ length vs * turns = logs_few turns vs few_entries in
-          let many : length vs ≡ length ps = played.last.stay.count ∙ played.turn.count ∙ played.hear.count ∙ played.first.stay.count ∙ begun.count in
+          let many : length vs ≡ length ps = played.last.stay.count ∙ played.turn.all.count ∙ played.hear.count ∙ played.first.stay.count ∙ begun.count in
           subst (λ n. sum_by (λ (l : Log Event). length l.entries) (map log_by vs) ≤ n * turns) many few
 
       pub parties_differ : PartiesDiffer (map log_by vs)
@@ -342,7 +340,7 @@ module _ (credit : CreditSpec) (names : List (List ℕ)) (events : List Event) (
       party_heard x some lt = party_at heard (x - 1) (omega (arith, some, lt, h.stand.stand.count, count, played.first.stay.count, played.hear.count))
 
       party_turned : (x : ℕ) → 1 ≤ x → x < size w → (r : Party) × IsAt turned (x - 1) r
-      party_turned x some lt = party_at turned (x - 1) (omega (arith, some, lt, h.stand.stand.count, count, played.first.stay.count, played.hear.count, played.turn.count))
+      party_turned x some lt = party_at turned (x - 1) (omega (arith, some, lt, h.stand.stand.count, count, played.first.stay.count, played.hear.count, played.turn.all.count))
 
       -- the name in its seat
       seat_name : (x : ℕ) → 1 ≤ x → x < size w → (seat_of w q (map keeps_in ps) x).held.name ≡ named x
@@ -368,9 +366,6 @@ module _ (credit : CreditSpec) (names : List (List ℕ)) (events : List Event) (
       -- no two members have one name
       just_named : (x y : ℕ) → 1 ≤ x → x < size w → 1 ≤ y → y < size w → named y ≡ named x → y ≡ x
       just_named x y some lt some' lt' e = some_is (sym (lawful.fit.named y some' lt') ∙ ap (id_of w) e ∙ lawful.fit.named x some lt)
-        where
-          some_is : {X : Type 0} {a b : X} → Some a ≡ Some b → a ≡ b
-          some_is k = cc
 
       -- the name at a place
       name_at_place : (i : ℕ) → i < length (map name_by ps) → get_or (map name_by ps) i [] ≡ named (i + 1)
@@ -444,7 +439,7 @@ module _ (credit : CreditSpec) (names : List (List ℕ)) (events : List Event) (
           ∙ sym (name_at_place i l) ∙ made_at name_by [] ps i p ip
 
       pub names_last : map name_by vs ≡ map name_by ps
-      names_last = all_mapped name_by ps vs (record { count = played.last.stay.count ∙ played.turn.count ∙ played.hear.count ∙ played.first.stay.count ∙ begun.count; each = name_last })
+      names_last = all_mapped name_by ps vs (record { count = played.last.stay.count ∙ played.turn.all.count ∙ played.hear.count ∙ played.first.stay.count ∙ begun.count; each = name_last })
 
       -- there are no more events than there was room for
       pub few_in_all : length events + length ps * turns < 2 ^ 59 → length (events ++ all_of (merged (map log_by vs))) < 2 ^ 59

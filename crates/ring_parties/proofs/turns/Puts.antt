@@ -27,10 +27,11 @@ use Rattle.ring_parties.specs.Acting.{sent_of}
 use Rattle.ring_parties.specs.RoundActs.{Stamped, push}
 use Rattle.ring_parties.specs.Round.{Seat, Deed}
 use Rattle.ring_parties.specs.Turn.{time_at, timed_item, timed_items, timed_grants, OutPasses, OutsPass, MayTurn, TakesTurns, Acted}
+use Rattle.ring_parties.proofs.lists.Truth.{made_some}
 use Rattle.ring_parties.proofs.standing.Rings.{pair_out, out_back_same}
 use Rattle.ring_parties.proofs.standing.Shown.{end_there, returned_there, in_there, same_out}
 use Rattle.ring_parties.proofs.turns.Named.{names_put}
-use Rattle.ring_parties.proofs.turns.Links.{place_of, some_map, none_here, push_puts, push_takes, given_time, in_rests, out_rests, none_waits, is_open, open_there, ends_but, acted_one, acted_still, may_still}
+use Rattle.ring_parties.proofs.turns.Links.{place_of, none_here, push_puts, push_takes, given_time, in_rests, out_rests, none_waits, is_open, open_there, ends_but, acted_one, acted_still, may_still}
 
 -- what passes the end
 put_passes : (round t : ℕ) (o p : RingOut Load) (k : PacketSeen) (said : PacketShown) → RingPuts o (as_item k) p → sent_of (packet_by_id k) ≡ said → time_at round k.stamp ≡ t → o.ended ≡ false → OutPasses round (record { stamp = t; it = Some said } ∷ []) [] o p
@@ -72,7 +73,7 @@ put_turns p q may (l, l', ml, nl, (k, said, (o, o', lo, lo', puts), stamped), ke
         sits = record {
           held = ap put_held sits.held ∙ sym held;
           keeps = sits.keeps ∙ sym keeps;
-          out = sits.out ∙ sym (some_map (put_on (held_of p.node).known) (held_of p.node).out) ∙ ap (λ h. is_some h.out) (sym held);
+          out = sits.out ∙ sym (made_some (put_on (held_of p.node).known) (held_of p.node).out) ∙ ap (λ h. is_some h.out) (sym held);
           current = sits.current ∙ ap (λ h. is_some h.current) (sym held);
         };
         same_out = refl;

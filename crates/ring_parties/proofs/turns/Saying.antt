@@ -219,16 +219,6 @@ answered_client (client.Requeue by at) = refl
 answered_client (client.Stop by) = refl
 answered_client (client.Admit by name) = refl
 
-pub by_client : (t : Client) → by_of (event_of t) ≡ asked_of t
-by_client (client.Cast by body) = refl
-by_client (client.Publish by body) = refl
-by_client (client.Get by) = refl
-by_client (client.Pop by) = refl
-by_client (client.Ack by at) = refl
-by_client (client.Requeue by at) = refl
-by_client (client.Stop by) = refl
-by_client (client.Admit by name) = refl
-
 pub itself_client : (t : Client) → is_by_itself (event_of t) ≡ is_saying (kind_of (event_of t))
 itself_client (client.Cast by body) = refl
 itself_client (client.Publish by body) = refl

@@ -35,6 +35,7 @@ use Rattle.ring_parties.specs.Seated.{seat_of, has_in_at, items_known, grants_kn
 use Rattle.ring_parties.specs.Closed.{put_on, given_on, ShowsSeat, may_take, has_end, LinkCloses, TookTurnsByEnds, HasClosed}
 use Rattle.ring_parties.specs.Pairing.{IsAt, EachParty, ArePaired, SendsApart, TakesApart, OutMeets, InMeets, HaveMetPairs}
 use Rattle.ring_parties.specs.Turn.{timed_items, timed_grants, OutPasses, InPasses, OutsPass, InsPass, round_of, SitsAt, Turned, TakesTurns}
+use Rattle.ring_parties.proofs.lists.Truth.{or_nothing, some_is, made_some, from_map, from_none}
 use Rattle.ring_parties.proofs.standing.Placing.{GoBetween, current_has, name_is_unique, name_stands, stands_named, stood_is, deposit_is}
 use Rattle.ring_parties.proofs.turns.Balance.{OutKept, out_kept, InKept, in_kept, nothing_passed, things_items, things_grants, items_pass, grants_pass}
 use Rattle.ring_parties.proofs.turns.Merging.{event_at, event_log, merge_told, are_told}
@@ -77,24 +78,8 @@ abbrev pub RestsAt : Type 0
 RestsAt = (round : ℕ) (a : Seat) (p : Party) → SitsAt a p → ((n : RingIn Load) → (ends_of p.node).link ≡ Some n → n.late ≡ None) → Turned round a a [] p p
 
 -- the places of names are the same
-some_is : {X : Type 0} {x y : X} → Some x ≡ Some y → x ≡ y
-some_is e = cc
-
 some_none : {X : Type 0} {x : X} {o : Option X} → o ≡ Some x → o ≡ None → ⊥
 some_none a b = cc
-
-map_some : {X Y : Type 0} (f : X → Y) (o : Option X) → is_some (option_map f o) ≡ is_some o
-map_some f None = refl
-map_some f (Some x) = refl
-
--- what stands behind an option that shows something
-from_map : {X Y : Type 0} (f : X → Y) (o : Option X) (y : Y) → option_map f o ≡ Some y → (x : X) × (o ≡ Some x) × (f x ≡ y)
-from_map f None y e = cc
-from_map f (Some x) y e = (x, refl, some_is e)
-
-from_none : {X Y : Type 0} (f : X → Y) (o : Option X) → option_map f o ≡ None → o ≡ None
-from_none f None e = refl
-from_none f (Some x) e = cc
 
 -- the other end of what passed an end that is there
 outs_there : (round : ℕ) (put : List (Stamped (Option PacketShown))) (gained : List (Stamped ℕ)) (a b : Option (RingOut Load)) (o : RingOut Load) → a ≡ Some o → OutsPass round put gained a b → (o' : RingOut Load) × (b ≡ Some o') × OutPasses round put gained o o'
@@ -187,8 +172,8 @@ module _ (initial : ℕ) (w : World) (q : Parties) (ks : List Keeps) (st : Stand
       record {
         held = sym (ap (λ (m : Shown). m.held) shown);
         keeps = sym (begins.keeps (x - 1) r at);
-        out = sym (ap (λ (g : Held). is_some g.out) held ∙ map_some (outgoing_in w) (member_at w x).out);
-        current = sym (ap (λ (g : Held). is_some g.current) held ∙ map_some (incoming_in w) (member_at w x).current);
+        out = sym (ap (λ (g : Held). is_some g.out) held ∙ made_some (outgoing_in w) (member_at w x).out);
+        current = sym (ap (λ (g : Held). is_some g.current) held ∙ made_some (incoming_in w) (member_at w x).current);
       }
 
   -- where it has come, and by which entries of its log
@@ -769,10 +754,6 @@ module _ (initial : ℕ) (w : World) (q : Parties) (ks : List Keeps) (st : Stand
       }
 
   -- ---- links
-
-  or_nothing : (b : Bool) → b ≡ (b || false)
-  or_nothing true = refl
-  or_nothing false = refl
 
   unended : (b c d : Bool) → c ≡ b → d ≡ false → c ≡ (b || d)
   unended b c d e f = e ∙ or_nothing b ∙ ap (λ k. b || k) (sym f)

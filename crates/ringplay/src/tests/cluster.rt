@@ -3,7 +3,7 @@
 //! for a plain round.
 
 use ring_cluster::Cluster;
-use ring_io::Gate;
+use ring_io::{Gate, MeetGate};
 use ring_names::{Body, MemberId, Name, OutOfMemory};
 use ring_rules::{Event, Refused};
 use ring_script::{Command, ScriptFault, Steps, read_steps};
@@ -174,7 +174,7 @@ fn ask(
 }
 
 /// One round.
-fn go<R: Threads + Abort>(
+fn go<R: Threads + Sync + Abort>(
     rt: &R,
     cluster: &mut Cluster,
     turns: u32,
@@ -184,7 +184,7 @@ fn go<R: Threads + Abort>(
     cluster.go(rt, turns, gate)
 }
 
-fn go_again<R: Threads + Abort>(
+fn go_again<R: Threads + Sync + Abort>(
     rt: &R,
     cluster: &mut Cluster,
     turns: u32,
@@ -196,7 +196,7 @@ fn go_again<R: Threads + Abort>(
     }
 }
 
-fn settle<R: Threads>(
+fn settle<R: Threads + Sync>(
     rt: &R,
     cluster: &mut Cluster,
     gate: &CountingGate,
@@ -250,7 +250,7 @@ fn lacked(cluster: &Cluster, by: u32) -> Option<u64> {
 }
 
 /// Whether the ring is seen so, or does so.
-fn is_so<R: Threads + Abort + AllocGlobal>(
+fn is_so<R: Threads + Sync + Abort + AllocGlobal>(
     rt: &R,
     cluster: &mut Cluster,
     gate: &CountingGate,
@@ -274,7 +274,11 @@ fn is_so<R: Threads + Abort + AllocGlobal>(
 }
 
 /// The ring that opens so does each line, or is seen so.
-fn play<R: Threads + Abort + AllocGlobal>(rt: &R, text: &str, lines: &[Line]) -> Result<(), Fail> {
+fn play<R: Threads + Sync + Abort + AllocGlobal>(
+    rt: &R,
+    text: &str,
+    lines: &[Line],
+) -> Result<(), Fail> {
     let mut cluster = ring(rt, text)?;
     let gate = CountingGate::new();
     for line in lines {
@@ -372,6 +376,19 @@ const AROUND_FAILED_TURNS: [Line; 9] = [
 fn each_turn_is_between_two_passes(rt: HostRuntime) -> Result<(), Fail> {
     play(&rt, "members a b c", &AROUND_TURNS)?;
     play(&rt, "members a b c", &AROUND_FAILED_TURNS)
+}
+
+/// How often a member looks for another at most, before its first turn.
+const LOOKS: u64 = 200_000_000;
+
+/// Each of the two waits before its first turn until the other's has begun.
+#[test]
+fn two_members_take_turns_at_the_same_time(rt: HostRuntime) -> Result<(), Fail> {
+    let mut cluster = ring(&rt, "members a b")?;
+    let gate = MeetGate::new(MemberId(1), MemberId(2), LOOKS);
+    cluster.go(&rt, 10, &gate)?;
+    assert!(&rt; gate.met());
+    Ok(())
 }
 
 /// It leads then, and its start comes round to it.

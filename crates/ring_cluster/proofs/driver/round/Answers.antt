@@ -1,33 +1,22 @@
-use Rattle.std.proofs.Common.{◌+◌, sym, arith}
-use Rattle.ring_cluster.proofs.rounds.Counting.{few_more, few_each}
-use Rattle.ring_cluster.proofs.rounds.Turning.{begun_more, all_begun, round_trans, member_back, place_still}
+use Rattle.std.proofs.Common.{◌-◌, arith}
+use Rattle.ring_cluster.proofs.rounds.Counting.{each_more, each_fewer}
+use Rattle.ring_cluster.proofs.rounds.Turning.{round_trans, parts_begun}
 use Rattle.ring_cluster.proofs.driver.round.Goals as goal
 
-pub turns_of-requires-clause-at : goal.turns_of-requires-clause-at
-turns_of-requires-clause-at g c κs within =
-    (place_still c.args.cluster.now c.loop-place.cluster c.loop-place.place c.loop-place.invariant.begun.round.stay (omega (arith, c.loop-place-test.true, c.loop-place.invariant.count)), sym c.name_at-name.ensures)
+pub returns-in_err-side_by_side-clause-few : goal.returns-in_err-side_by_side-clause-few
+returns-in_err-side_by_side-clause-few g c = each_fewer (c.args.turns - 1) c.args.turns c.args.cluster.now c.side_by_side.new.self (omega arith) c.side_by_side.ensures.few
 
-pub returns-in_err-turns_of-clause-few : goal.returns-in_err-turns_of-clause-few
-returns-in_err-turns_of-clause-few g c =
-    few_each c.args.turns (c.loop-place.place + 1) c.args.cluster.now c.turns_of.new.cluster
-    (few_more c.args.turns c.loop-place.place c.name_at-name.result c.args.cluster.now c.loop-place.cluster c.turns_of.new.cluster c.is_going.ensures
-    (member_back c.args.cluster.now c.loop-place.cluster c.loop-place.place c.name_at-name.result c.loop-place.invariant.begun.round.stay (omega (arith, c.loop-place-test.true, c.loop-place.invariant.count)) c.name_at-name.ensures)
-    c.loop-place.invariant.few c.turns_of.ensures.few)
+pub returns-in_err-last_turns-clause-round : goal.returns-in_err-last_turns-clause-round
+returns-in_err-last_turns-clause-round g c = round_trans c.args.cluster.now c.side_by_side.new.self c.last_turns.new.cluster c.side_by_side.ensures.round c.last_turns.ensures.round
 
-pub loop-place-preserved : goal.loop-place-preserved
-loop-place-preserved g c =
-    let at = member_back c.args.cluster.now c.loop-place.cluster c.loop-place.place c.name_at-name.result c.loop-place.invariant.begun.round.stay (omega (arith, c.loop-place-test.true, c.loop-place.invariant.count)) c.name_at-name.ensures in
-    record {
-      count = c.loop-place.invariant.count;
-      begun = begun_more c.loop-place.place c.name_at-name.result c.args.cluster.now c.loop-place.cluster c.turns_of.new.cluster c.loop-place.invariant.begun at c.turns_of.ensures.round c.in_ok-turns_of.ensures.begun;
-      few = few_more c.args.turns c.loop-place.place c.name_at-name.result c.args.cluster.now c.loop-place.cluster c.turns_of.new.cluster c.is_going.ensures at c.loop-place.invariant.few c.turns_of.ensures.few;
-    }
+pub returns-in_err-last_turns-clause-few : goal.returns-in_err-last_turns-clause-few
+returns-in_err-last_turns-clause-few g c = each_more (c.args.turns - 1) 1 c.args.turns c.args.cluster.now c.side_by_side.new.self c.last_turns.new.cluster (omega (arith, c.requires)) c.side_by_side.ensures.few c.last_turns.ensures.once
 
-pub name_at-name-requires : goal.name_at-name-requires
-name_at-name-requires g c = place_still c.args.cluster.now c.loop-place.cluster c.loop-place.place c.loop-place.invariant.begun.round.stay (omega (arith, c.loop-place-test.true, c.loop-place.invariant.count))
+pub returns-clause-round : goal.returns-clause-round
+returns-clause-round g c = round_trans c.args.cluster.now c.side_by_side.new.self c.last_turns.new.cluster c.side_by_side.ensures.round c.last_turns.ensures.round
 
-pub returns-in_err-turns_of-clause-round : goal.returns-in_err-turns_of-clause-round
-returns-in_err-turns_of-clause-round g c = round_trans c.args.cluster.now c.loop-place.cluster c.turns_of.new.cluster c.loop-place.invariant.begun.round c.turns_of.ensures.round
+pub returns-clause-few : goal.returns-clause-few
+returns-clause-few g c = each_more (c.args.turns - 1) 1 c.args.turns c.args.cluster.now c.side_by_side.new.self c.last_turns.new.cluster (omega (arith, c.requires)) c.side_by_side.ensures.few c.last_turns.ensures.once
 
 pub returns-clause-begun : goal.returns-clause-begun
-returns-clause-begun g c = all_begun c.loop-place.place c.args.cluster.now c.loop-place.cluster (omega (arith, c.loop-place.invariant.count, c.loop-place-test.false, c.loop-place.auto.place-end)) c.loop-place.invariant.begun
+returns-clause-begun g c = parts_begun c.args.cluster.now c.side_by_side.new.self c.last_turns.new.cluster c.side_by_side.ensures.round c.last_turns.ensures.round c.in_ok-last_turns.ensures.begun

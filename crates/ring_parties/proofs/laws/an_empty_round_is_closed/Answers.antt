@@ -1,11 +1,3 @@
-use Rattle.ring_parties.proofs.turns.Playing.{have_taken}
-use Rattle.ring_parties.proofs.turns.Playing.{all_shown}
-use Rattle.ring_parties.proofs.turns.Between.{meet_again}
-use Rattle.ring_parties.proofs.turns.Counting.{logs_few}
-use Rattle.ring_parties.proofs.turns.Answering.{events_of_one}
-use Rattle.ring_parties.proofs.turns.Sides.{turns_stand}
-use Rattle.ring_parties.proofs.turns.Beginning.{may_turn}
-use Rattle.ring_parties.proofs.turns.Named.{names_took}
 use Rattle.ring_parties.proofs.rounds.Seated.{early_seated}
 use Rattle.ring_parties.proofs.rounds.Empty.{nobody_took, empty_closed}
 use Rattle.ring_parties.proofs.laws.an_empty_round_is_closed.Goals as goal
