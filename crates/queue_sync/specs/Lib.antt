@@ -1,0 +1,3 @@
+pub mod Copy
+pub mod Seen
+pub mod Lending
