@@ -8,14 +8,11 @@ use Rattle.ring_rules.specs.Step.{size, log_of, opening}
 use Rattle.ring_rules.specs.Event.{IsRun, last}
 use Rattle.ring_rules.specs.Compact.{IsCompact}
 use Rattle.ring_rules.specs.Laws.{IsLawful}
-use Rattle.ring_rules.proofs.compact.AllCompact.{reached_compact}
+use Rattle.ring_rules.proofs.runs.OfEvents.{reached_fit as ring_fit, reached_compact, every_state_lawful, run_credited, reached_lines, run_logged}
 use Rattle.ring_rules.proofs.invariants.Happens.{IsGood}
 use Rattle.ring_rules.proofs.walks.Ended.{EndsRight}
-use Rattle.ring_rules.proofs.runs.AllRuns.{every_state_lawful}
 use Rattle.ring_rules.proofs.runs.Lines.{LinesRight}
-use Rattle.ring_rules.proofs.runs.LinkCredit.{run_credited}
-use Rattle.ring_rules.proofs.runs.NoGap.{reached_lines}
-use Rattle.ring_rules.proofs.runs.OwnLogs.{IsLogged, run_logged, HasOwnLogs}
+use Rattle.ring_rules.proofs.runs.OwnLogs.{IsLogged, HasOwnLogs}
 use Rattle.ring_rules.proofs.work.OwnEnds.{OwnEnds}
 use Rattle.ring_rules.proofs.work.Fit as ring
 use Rattle.gm_member.proofs.Ordered.{AreOrdered, reached_ordered}
@@ -51,7 +48,7 @@ pub record IsFit (w : World) : Type 0 where
 pub reached_fit : (credit : CreditSpec) (names : List (List ℕ)) (events : List Event) → AreOpeningNames names → IsRun (opening credit names) events → IsFit (last (opening credit names) events)
 reached_fit credit names events are r =
     let w : World = last (opening credit names) events in
-    let fit : ring.IsFit w = ring.reached_fit credit names events are r in
+    let fit : ring.IsFit w = ring_fit credit names events are r in
     let logged : IsLogged w = run_logged credit names events are r in
     let lawful = every_state_lawful credit names events are r in
     record {

@@ -17,9 +17,10 @@ use Rattle.ring_rules.proofs.events.Cases.{each_event}
 use Rattle.ring_rules.proofs.events.Composed.{refresh_composed, end_composed}
 use Rattle.ring_rules.proofs.events.First.{first_row}
 use Rattle.ring_rules.proofs.events.Leaves.{member_leaves, come_member}
-use Rattle.ring_rules.proofs.invariants.Happens.{IsGood, event_good, opening_good}
+use Rattle.ring_rules.proofs.invariants.Happens.{IsGood, opening_good}
+use Rattle.ring_rules.proofs.runs.OfEvents.{event_good, run_knowing}
 use Rattle.ring_rules.proofs.runs.Apart.{forgot_below}
-use Rattle.ring_rules.proofs.runs.OwnLogs.{IsLogged, opening_logged, run_knowing}
+use Rattle.ring_rules.proofs.runs.OwnLogs.{IsLogged, opening_logged}
 use Rattle.gm_member.proofs.Rows.{mapped_row}
 
 -- a member has forgotten of no origin what it didn't receive

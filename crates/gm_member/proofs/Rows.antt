@@ -16,7 +16,8 @@ use Rattle.ring_rules.proofs.events.Cases.{Cases, each_event}
 use Rattle.ring_rules.proofs.events.Composed.{refresh_composed, end_composed}
 use Rattle.ring_rules.proofs.events.First.{first_each, first_size}
 use Rattle.ring_rules.proofs.events.Leaves.{member_leaves, come_member}
-use Rattle.ring_rules.proofs.invariants.Happens.{IsGood, opening_good, run_events}
+use Rattle.ring_rules.proofs.invariants.Happens.{IsGood, opening_good}
+use Rattle.ring_rules.proofs.runs.OfEvents.{run_events}
 
 -- A member has no more rows than this, and has retired nothing and has no base where it waits.
 pub record RowsFit (n : ℕ) (y : Member) : Type 0 where

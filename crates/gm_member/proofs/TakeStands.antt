@@ -25,7 +25,8 @@ use Rattle.activity.specs.Plan.{accepted}
 use Rattle.ring_rules.specs.Compact.{Has, low, line_in, IsInTurn}
 use Rattle.ring_rules.proofs.compact.ByLines.{has_stays, oldest_says, without_line}
 use Rattle.ring_rules.proofs.events.WhatRefuses.{MayTake}
-use Rattle.ring_rules.proofs.invariants.Happens.{IsGood, event_good}
+use Rattle.ring_rules.proofs.invariants.Happens.{IsGood}
+use Rattle.ring_rules.proofs.runs.OfEvents.{event_good}
 use Rattle.ring_rules.proofs.runs.NeverFalls.{RowRises, taker_rises_all}
 use Rattle.gm_member.specs.declared.taken.Taken.{Taken}
 use Rattle.gm_member.specs.Packets.{places, PacketById, known_at, line_at}

@@ -16,8 +16,9 @@ use Rattle.ring_rules.proofs.events.Cases.{Cases, each_event}
 use Rattle.ring_rules.proofs.events.Composed.{refresh_composed, end_composed}
 use Rattle.ring_rules.proofs.events.First.{first_each, first_link_at}
 use Rattle.ring_rules.proofs.events.Leaves.{member_leaves, come_member}
-use Rattle.ring_rules.proofs.events.Parts.{Part, IsStill, cast_part, put_part, take_part, begin_part, come_part, gain_part, stop_part, open_part, still_part, run_keeps}
-use Rattle.ring_rules.proofs.invariants.Happens.{IsGood, opening_good, run_events}
+use Rattle.ring_rules.proofs.events.Parts.{Part, IsStill, cast_part, put_part, take_part, begin_part, come_part, gain_part, stop_part, open_part, still_part}
+use Rattle.ring_rules.proofs.runs.OfEvents.{run_keeps, run_events}
+use Rattle.ring_rules.proofs.invariants.Happens.{IsGood, opening_good}
 
 -- ---- who waits sends nowhere
 

@@ -6,7 +6,8 @@ use Rattle.ring_rules.specs.declared.event.Event.{Event}
 use Rattle.ring_rules.specs.Machine.{Member, World, member_at}
 use Rattle.ring_rules.specs.Step.{opening}
 use Rattle.ring_rules.specs.Event.{IsRun, last}
-use Rattle.ring_rules.proofs.work.OwnEnds.{OwnEnds, reached_owns}
+use Rattle.ring_rules.proofs.work.OwnEnds.{OwnEnds}
+use Rattle.ring_rules.proofs.runs.OfEvents.{reached_owns}
 
 -- of n links
 pub record Within (n : ℕ) (m : Member) : Type 0 where

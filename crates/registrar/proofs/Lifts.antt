@@ -5,7 +5,8 @@ use Rattle.ring_names.specs.declared.reason.Reason.{Reason}
 use Rattle.ring_rules.specs.Machine.{World}
 use Rattle.ring_rules.specs.declared.event.Event.{Event}
 use Rattle.ring_rules.specs.Event.{refusal, effect}
-use Rattle.ring_rules.proofs.invariants.Happens.{IsGood, reached_good}
+use Rattle.ring_rules.proofs.invariants.Happens.{IsGood}
+use Rattle.ring_rules.proofs.runs.OfEvents.{reached_good}
 use Rattle.group_view.specs.declared.request.Request.{Request}
 use Rattle.group_view.specs.declared.request.Request.TheVariants.{Mark, Refresh, Admit, Erase, Synced, Stopped, Deposit, Collect}
 use Rattle.registrar.specs.Registry.{Registry}

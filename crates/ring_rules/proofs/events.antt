@@ -1,4 +1,5 @@
 -- When an event may happen, what it does, and how steps are put together.
+pub mod Acts
 pub mod Cases
 pub mod Composed
 pub mod Enabled

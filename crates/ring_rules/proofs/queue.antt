@@ -1,5 +1,6 @@
 -- The mirrors agree, and confirmed messages stand.
 pub mod Asked
+pub mod CopySteps
 pub mod Facts
 pub mod Known
 pub mod Likes

@@ -20,6 +20,7 @@ pub mod LinksStand
 pub mod LongerWalk
 pub mod NeverFalls
 pub mod NoGap
+pub mod OfEvents
 pub mod OpenExamples
 pub mod OwnLogs
 pub mod Published

@@ -25,7 +25,7 @@ pub use Rattle.ring_rules.specs.declared.event.Event.{Event}
 pub use Rattle.ring_rules.specs.declared.event.Event.TheVariants.{Cast, Publish, Get, Pop, Ack, Requeue, Depth, Start, Put, Take, TakeEnd, Gain, Stop, Mark, Refresh, Admit, Pick, Erase, Synced, Refuse}
 use Rattle.ring_rules.specs.declared.event.Client.{Client}
 use Rattle.ring_rules.specs.declared.event.Client.TheVariants as client
-pub use Rattle.ring_rules.specs.Kind.{QueueSaying, Publishes, Does, Saying, Own, OfQueue, Kind, Says, Steps, Changes, Stops, Reads, Tells, kind_of}
+pub use Rattle.ring_rules.specs.Kind.{QueueSaying, Publishes, Does, Marks, Saying, Own, OfQueue, Kind, Says, Steps, Changes, Stops, Reads, Tells, kind_of}
 use Rattle.ring_rules.specs.declared.kind.Asking.TheVariants as asking
 use Rattle.ring_rules.specs.declared.kind.LinkStep.TheVariants as step
 use Rattle.ring_rules.specs.declared.kind.ViewChange.TheVariants as change
@@ -206,6 +206,7 @@ asked_op m g x started (Does (asking.Ack at)) = ack_of m g x started at
 asked_op m g x started (Does (asking.Requeue at)) = requeue_of m g x started at
 asked_op m g x started (Does asking.Depth) = depth_of m g x started
 asked_op m g x started (Does asking.Start) = start_of m g x started
+asked_op m g x started (Marks target) = or_refused (lead_refusal g x started) (Ok (op.SyncMark target))
 
 -- the same in a state
 abbrev pub op_as : World → ℕ → QueueSaying → Result Op Reason

@@ -1,5 +1,6 @@
 -- What kinds of events there are.
 use Rattle.std.specs.Prelude.{ℕ, List, Option, Some, None}
+use Rattle.ring_names.specs.declared.numbers.MemberId.{MemberId}
 use Rattle.ring_rules.specs.declared.event.Client.{Client}
 use Rattle.ring_rules.specs.declared.event.Client.TheVariants as client
 use Rattle.ring_rules.specs.declared.event.Event.{Event}
@@ -13,10 +14,12 @@ use Rattle.ring_rules.specs.declared.kind.ViewChange.TheVariants as change
 use Rattle.ring_rules.specs.declared.kind.Kind.{Kind as ShownKind}
 use Rattle.ring_rules.specs.declared.kind.Kind.TheVariants as shown
 
--- what a master says of its queue: it publishes a message, or does what it is asked, or what it does by itself
+-- what a master says of its queue: it publishes a message, does what it is asked, or what it does by itself, or marks a
+-- copy to a member
 pub data QueueSaying : Type 0 where
   Publishes : List ℕ → QueueSaying
   Does : Asking → QueueSaying
+  Marks : MemberId → QueueSaying
 
 -- what a member says to all: a message of its own, or an operation of its queue
 pub data Saying : Type 0 where

@@ -1,3 +1,4 @@
+pub mod Act
 pub mod Asked
 pub mod Bounded
 pub mod Compact

@@ -37,9 +37,10 @@ pub record GoesRight (w : World) (x o : ℕ) : Type 0 where
   pub receiver : (link_at w o).receiver ≡ right w (version_of w x) x
   pub goes_on : (link_at w o).ending ≡ None
 
--- x has never sent: it joined, has still the view in which it was admitted, and no link is from it
+-- x has never sent: it joined, so in a later view than the first, has still the view in which it was admitted, and no link is
+-- from it
 pub record HasNeverSent (w : World) (x : ℕ) : Type 0 where
-  pub joined : (member_at w x).whole ≡ false
+  pub joined : 1 < version_of w x
   pub version : (entry_in (view_in w (version_of w x)).entries x).joined ≡ version_of w x
   pub none : (s : ℕ) → s < length w.links → (link_at w s).sender ≢ x
 

@@ -5,7 +5,7 @@ use Rattle.std.specs.List.{range_with_len, flat_map, list_any}
 use Rattle.ring_names.specs.declared.numbers.CreditSpec.{CreditSpec}
 use Rattle.queue_core.specs.declared.message.Message.{Message}
 use Rattle.queue_core.specs.declared.op.Op.{Op}
-use Rattle.queue_mirror.specs.Mirror.{founding, joining, apply_ops, is_tell}
+use Rattle.queue_mirror.specs.Mirror.{MirrorState, founding, joining, apply_ops, is_tell}
 use Rattle.queue_laws.specs.Part.{ops_of, ops}
 use Rattle.queue_laws.specs.Starting.{is_start}
 use Rattle.ring_rules.specs.declared.numbers.Numbers.{Numbers}
@@ -136,6 +136,16 @@ finished l = record l { over = true }
 -- y has taken its current link s to its end
 abbrev pub leave_link : World → ℕ → ℕ → World
 leave_link w y s = with_link (current_is w y None) s (finished (link_at w s))
+
+-- ---- a copy that is done
+
+-- a member's mirror is the one that a copy has made, and so it is whole
+abbrev pub copied : MirrorState → Member → Member
+copied m y = record y { mirror = m; whole = true }
+
+-- that of y
+abbrev pub copied_at : World → ℕ → MirrorState → World
+copied_at w y m = with_member w y (copied m (member_at w y))
 
 -- ---- a stop of x
 

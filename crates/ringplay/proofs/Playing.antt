@@ -12,10 +12,7 @@ use Rattle.ring_rules.specs.Event.{IsRun, effect, last}
 use Rattle.ring_rules.specs.Laws.{IsLawful, GoesOn}
 use Rattle.ring_rules.specs.QueueLaws.{QueueIsRight, LaterMastersStart}
 use Rattle.ring_rules.specs.Quiet.{IsQuiet}
-use Rattle.ring_rules.proofs.runs.InOrder.{last_append}
-use Rattle.ring_rules.proofs.runs.AllRuns.{every_state_lawful, every_run_goes_on}
-use Rattle.ring_rules.proofs.queue.Runs.{run_queue_right}
-use Rattle.ring_rules.proofs.queue.Starts.{run_starts}
+use Rattle.ring_rules.proofs.runs.OfEvents.{last_append, every_state_lawful, every_run_goes_on, run_queue_right, run_starts}
 use Rattle.ring_cluster.specs.Seen.{Seen, IsGoing, state_of, opening_seen}
 use Rattle.ring_cluster.specs.Plays.{IsOfMember, HasGoneOn}
 use Rattle.ring_cluster.specs.Heard.{OpenersHaveNoBase}
@@ -89,11 +86,11 @@ module _ (credit : CreditSpec) (names : List (List ℕ)) (journal : List Event) 
   queue_after few k =
       let len : length (take k journal) ≡ min k (length journal) = length-take k journal in
       let right : QueueIsRight (length (take k journal)) (state_after credit names journal k) =
-      run_queue_right credit names (take k journal) are (omega (arith, len, few)) (run_front opened k journal run) in
+      run_queue_right credit names (take k journal) are (run_front opened k journal run) (omega (arith, len, few)) in
       record { agree = right.agree; stands = right.stands; above = right.above; few = λ q. omega (arith, len, right.few q) }
 
   starts_after : (k : ℕ) → LaterMastersStart (state_after credit names journal k)
-  starts_after k = run_starts credit names are (take k journal) (run_front opened k journal run)
+  starts_after k = run_starts credit names (take k journal) are (run_front opened k journal run)
 
   goes_on_after : (j k : ℕ) → j ≤ k → GoesOn (state_after credit names journal j) (state_after credit names journal k)
   goes_on_after j k l =

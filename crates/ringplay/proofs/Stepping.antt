@@ -6,7 +6,7 @@ use Rattle.ring_script.specs.declared.text.Text.{Text}
 use Rattle.ring_rules.specs.declared.event.Event.{Event}
 use Rattle.ring_rules.specs.Step.{opening}
 use Rattle.ring_rules.specs.Event.{refusal, last, refusals_of}
-use Rattle.ring_rules.proofs.runs.InOrder.{last_append}
+use Rattle.ring_rules.proofs.runs.OfEvents.{last_append}
 use Rattle.ring_cluster.specs.Seen.{Seen, IsGoing, state_of, opening_seen}
 use Rattle.ring_cluster.specs.Agendas.{tasks_in}
 use Rattle.ring_report.specs.Report.{report_of}

@@ -17,7 +17,7 @@ use Rattle.ring_rules.specs.Event.{refusal, effect, by_of, asked_of, event_of, i
 use Rattle.ring_rules.specs.Quiet.{IsQuiet}
 use Rattle.ring_rules.specs.Work.{total, LeavesLess}
 use Rattle.ring_rules.proofs.events.Names.{same_bytes, own_bytes}
-use Rattle.ring_rules.proofs.runs.InOrder.{last_append}
+use Rattle.ring_rules.proofs.runs.OfEvents.{last_append}
 use Rattle.ring_cluster.specs.Agendas.{Plan, IsAskedOf, names_of, place_among, tasks_in, with_tasks, with_asked}
 use Rattle.ring_cluster.specs.Backlog.{backlog, backlog_of}
 use Rattle.ring_cluster.specs.Handed.{handing, given_to, handed}

@@ -25,12 +25,10 @@ use Rattle.ring_rules.proofs.events.Enabled.{up_none}
 use Rattle.ring_rules.proofs.events.Refusals.{id_within}
 use Rattle.ring_rules.proofs.rests.Asked.{no_version}
 use Rattle.ring_rules.proofs.rings.Rounds.{nat_eq-same}
-use Rattle.ring_rules.proofs.runs.InOrder.{last_append, run_append}
+use Rattle.ring_rules.proofs.runs.OfEvents.{reached_fit as ring_fit, last_append, run_append, reached_old}
 use Rattle.ring_rules.proofs.runs.Published.{found_name}
-use Rattle.ring_rules.proofs.invariants.FirstVersion.{reached_old}
 use Rattle.ring_rules.proofs.walks.Ended.{runs_lt}
 use Rattle.ring_rules.proofs.work.Settling.{repair_less, someone}
-use Rattle.ring_rules.proofs.work.Fit as ring
 use Rattle.gm_member.proofs.Fit.{IsFit, reached_fit}
 use Rattle.ring_cluster.specs.Seen.{Seen, state_of, IsGoing, IsMemberIn, with_event}
 use Rattle.ring_parties.specs.States.{state, IsEventIn}
@@ -177,7 +175,7 @@ waiting_takes credit names events x are r waits =
     run = ap runs_phase waits
 
     some : 1 ≤ x
-    some = someone w (ring.reached_fit credit names events are r) x run
+    some = someone w (ring_fit credit names events are r) x run
 
     by_current : (o : Option ℕ) → (member_at w x).current ≡ o → on_link o reason.NoCurrentLink (take_refusal w x) ≡ None
     by_current None e = absurd (false≢true (sym (ap is_some e) ∙ f.good.inv.joining.some x waits))

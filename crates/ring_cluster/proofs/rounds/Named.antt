@@ -12,7 +12,8 @@ use Rattle.ring_rules.specs.Event.{by_of, asked_of, event_of, is_asked}
 use Rattle.ring_rules.specs.Work.{LeavesLess}
 use Rattle.ring_rules.specs.Settling.{is_repair}
 use Rattle.ring_rules.proofs.events.Kinds.{event_by}
-use Rattle.ring_rules.proofs.work.Fit as ring
+use Rattle.ring_rules.proofs.work.Fit.{IsFit as RingIsFit}
+use Rattle.ring_rules.proofs.runs.OfEvents.{reached_fit as ring_fit}
 use Rattle.ring_rules.proofs.work.Settling.{repair_less}
 use Rattle.gm_member.proofs.Fit.{IsFit, reached_fit}
 use Rattle.ring_rules.specs.declared.kind.LinkStep.{LinkStep}
@@ -42,8 +43,8 @@ pub going_fit : (c : Seen) → IsGoing c → IsFit (state_of c)
 going_fit c g = reached_fit c.credit c.names c.events g.are g.run
 
 -- and what holds of it as a state of the ring
-pub going_ring : (c : Seen) → IsGoing c → ring.IsFit (state_of c)
-going_ring c g = ring.reached_fit c.credit c.names c.events g.are g.run
+pub going_ring : (c : Seen) → IsGoing c → RingIsFit (state_of c)
+going_ring c g = ring_fit c.credit c.names c.events g.are g.run
 
 -- ---- what is asked
 

@@ -10,7 +10,7 @@ use Rattle.ring_rules.specs.Quiet.{IsQuiet}
 use Rattle.ring_rules.specs.Machine.{World}
 use Rattle.ring_rules.specs.Step.{opening}
 use Rattle.ring_rules.specs.Event.{event_of, last}
-use Rattle.ring_rules.proofs.runs.InOrder.{last_append}
+use Rattle.ring_rules.proofs.runs.OfEvents.{last_append}
 use Rattle.ring_cluster.specs.Seen.{Seen, state_of, IsGoing, collecting, with_event, opening_seen}
 use Rattle.ring_parties.specs.States.{state}
 use Rattle.ring_cluster.specs.Agendas.{tasks_in}

@@ -20,7 +20,7 @@ use Rattle.ring_rules.specs.Refusal.{refuse_if, or_else}
 use Rattle.ring_rules.proofs.events.Refusals.{none_of, id_within, runs_from}
 use Rattle.ring_rules.proofs.rests.Rests.{entry_at}
 use Rattle.ring_rules.proofs.runs.Published.{found_name}
-use Rattle.ring_rules.proofs.queue.Known.{run_idle_is_quiet}
+use Rattle.ring_rules.proofs.runs.OfEvents.{run_idle_is_quiet}
 use Rattle.ring_rules.proofs.work.Fit as ring
 use Rattle.ring_cluster.specs.Plays.{agenda_of, takes_up, passes, AgendasAreEmpty}
 use Rattle.ring_names.specs.declared.numbers.MemberId.{MemberId}
@@ -247,7 +247,7 @@ module _ (c : Seen) (g : IsGoing c) (h : AllRest (state_of c)) where
   idle_rest = none_left_is_idle w (going_ring c g) none_left
 
   pub quiet_rest : IsQuiet w
-  quiet_rest = run_idle_is_quiet c.credit c.names c.events g.are (few_events (length c.events) g.few) g.run idle_rest
+  quiet_rest = run_idle_is_quiet c.credit c.names c.events g.are g.run (few_events (length c.events) g.few) idle_rest
 
 -- after a pass in which nobody did anything
 pub rest_after : (c d : Seen) → SameButOwed c d × AllRest (state_of c) → AllRest (state_of d)

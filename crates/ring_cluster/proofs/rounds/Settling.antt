@@ -16,7 +16,8 @@ use Rattle.ring_rules.proofs.invariants.Period.{right_lives}
 use Rattle.ring_rules.proofs.walks.Views.{right_is}
 use Rattle.ring_rules.specs.Event.{erase_refusal}
 use Rattle.ring_rules.proofs.code.Enables.{erase_dead}
-use Rattle.ring_rules.proofs.rests.Rests.{id_in, entry_at, run_worked_rests}
+use Rattle.ring_rules.proofs.rests.Rests.{id_in, entry_at}
+use Rattle.ring_rules.proofs.runs.OfEvents.{run_worked_rests}
 use Rattle.ring_rules.specs.Idle.{NobodySteps, MarksNobody, ErasesNobody}
 use Rattle.ring_rules.proofs.work.Fit as ring
 use Rattle.ring_rules.proofs.work.Nobody.{ring_members}

@@ -15,7 +15,8 @@ use Rattle.ring_rules.specs.Event.{IsRun, last}
 use Rattle.ring_rules.proofs.rings.Lists.{at_set}
 use Rattle.ring_rules.proofs.events.First.{first_row, first_size}
 use Rattle.ring_rules.proofs.events.Leaves.{member_leaves, come_member, with_opened}
-use Rattle.ring_rules.proofs.events.Parts.{Part, cast_part, put_part, take_part, begin_part, come_part, gain_part, stop_part, open_part, still_part, run_keeps}
+use Rattle.ring_rules.proofs.events.Parts.{Part, cast_part, put_part, take_part, begin_part, come_part, gain_part, stop_part, open_part, still_part}
+use Rattle.ring_rules.proofs.runs.OfEvents.{run_keeps}
 use Rattle.ring_rules.proofs.invariants.Opening.{opening_phase}
 use Rattle.ring_rules.proofs.invariants.Happens.{IsGood, opening_good}
 use Rattle.ring_cluster.specs.Heard.{OpenersHaveNoBase}

@@ -16,8 +16,10 @@ use Rattle.ring_rules.proofs.events.First.{first_log}
 use Rattle.ring_rules.proofs.events.Names.{same_bytes}
 use Rattle.ring_rules.proofs.events.Refusals.{id_within}
 use Rattle.ring_rules.proofs.rings.Maps.{position_map}
-use Rattle.ring_rules.proofs.invariants.Happens.{IsGood, event_good, opening_good}
-use Rattle.ring_rules.proofs.invariants.Named.{AreNamed, event_named, reached_named}
+use Rattle.ring_rules.proofs.invariants.Happens.{IsGood, opening_good}
+use Rattle.ring_rules.proofs.runs.OfEvents.{event_good, reached_named}
+use Rattle.ring_rules.specs.Act.{act_of}
+use Rattle.ring_rules.proofs.invariants.Named.{AreNamed, act_named}
 use Rattle.ring_rules.proofs.runs.Published.{run_grows, found_name}
 use Rattle.ring_cluster.specs.Agendas.{place_among}
 use Rattle.ring_cluster.specs.Published.{names_in, told_of_each}
@@ -117,7 +119,7 @@ module _ (w : World) (before : List Event) (e : Event) (g : IsGood w) (n : AreNa
   known_new name k x is some =
       ap (λ y. map told_of (log_of w' y)) is ∙ ap (map told_of) k.nothing
       ∙ sym (nothing_of name (λ y first lt same.
-      let both : y ≡ size w = (event_named w e g r n).different y (size w) first (omega (arith, lt, k.many)) (omega (arith, is, some)) (omega (arith, k.many)) (k.keeps.name y lt ∙ same ∙ sym k.new) in
+      let both : y ≡ size w = (act_named w (act_of e) g r n).different y (size w) first (omega (arith, lt, k.many)) (omega (arith, is, some)) (omega (arith, k.many)) (k.keeps.name y lt ∙ same ∙ sym k.new) in
       absurd (omega (arith, both, lt))))
       ∙ ap (λ a. published_in a (before ++ e ∷ [])) (sym k.new ∙ ap (λ y. (member_at w' y).name) (sym is))
 
@@ -141,7 +143,7 @@ run_logs : (w : World) (before events : List Event) → IsGood w → AreNamed w 
 run_logs w before [] g n r h = subst (λ es. LogsAre es w) (sym (append-nil before)) h
 run_logs w before (e ∷ es) g n r h =
     subst (λ xs. LogsAre xs (last (effect w e) es)) (append_assoc before (e ∷ []) es)
-    (run_logs (effect w e) (before ++ e ∷ []) es (event_good w e g r.0) (event_named w e g r.0 n) r.1 (event_logs w before e g n r.0 h))
+    (run_logs (effect w e) (before ++ e ∷ []) es (event_good w e g r.0) (act_named w (act_of e) g r.0 n) r.1 (event_logs w before e g n r.0 h))
 
 -- what is told of each member's log, of the opening or joined, is what the events have published of its name
 pub run_publishes : (credit : CreditSpec) (names : List (List ℕ)) (events : List Event) (x : ℕ) → AreOpeningNames names → IsRun (opening credit names) events → 1 ≤ x → x < size (last (opening credit names) events)

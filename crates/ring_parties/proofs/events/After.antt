@@ -9,7 +9,7 @@ use Rattle.ring_rules.specs.declared.kind.LinkStep.TheVariants as step
 use Rattle.ring_rules.specs.Kind.{Steps, kind_of}
 use Rattle.ring_rules.specs.Event.{by_of, id_of, refusal, refused_as, done_as}
 use Rattle.ring_rules.specs.Step.{size, opening}
-use Rattle.ring_rules.proofs.runs.InOrder.{last_append, run_append}
+use Rattle.ring_rules.proofs.runs.OfEvents.{last_append, run_append}
 use Rattle.registrar.specs.Registry.{Registry, AreHere}
 use Rattle.activity.specs.declared.packet.Load.{Load}
 use Rattle.activity.specs.Kept.{got_of}

@@ -25,7 +25,7 @@ use Rattle.ring_rules.specs.Machine as machine
 use Rattle.ring_rules.specs.Step.{size, opening}
 use Rattle.ring_rules.specs.Event.{by_of, id_of, of_member, is_stopped, up_refusal, refresh_refusal, pick_refusal, refused_as, refusal, done_as}
 use Rattle.ring_rules.specs.Event as event
-use Rattle.ring_rules.proofs.runs.InOrder.{last_append, run_append}
+use Rattle.ring_rules.proofs.runs.OfEvents.{last_append, run_append}
 use Rattle.ring_rules.proofs.events.WhatRefuses.{MayLook}
 use Rattle.ring_rules.proofs.events.Refusals.{none_of}
 use Rattle.ring_rules.proofs.events.Enabled.{up_none}

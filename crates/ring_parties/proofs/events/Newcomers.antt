@@ -15,7 +15,7 @@ use Rattle.ring_rules.specs.View.{ids}
 use Rattle.ring_rules.specs.Machine.{World, member_at, newest as newest_version, view_in}
 use Rattle.ring_rules.specs.Step.{size, opening}
 use Rattle.ring_rules.specs.Event.{id_of, admit_refusal, refused_as, effect}
-use Rattle.ring_rules.proofs.runs.InOrder.{last_append, run_append}
+use Rattle.ring_rules.proofs.runs.OfEvents.{last_append, run_append}
 use Rattle.ring_rules.proofs.invariants.KeptAdmit.{CanJoin}
 use Rattle.ring_rules.proofs.code.Looks.{nobody_refuses_admitting}
 use Rattle.registrar.specs.Registry.{Registry, newest}

@@ -16,7 +16,7 @@ use Rattle.ring_rules.specs.Machine.{World, Link, member_at, link_at}
 use Rattle.ring_rules.specs.OpenLinks.{is_place, is_current, is_door_link, passes}
 use Rattle.ring_rules.specs.Step.{size}
 use Rattle.ring_rules.specs.Event.{is_stopped}
-use Rattle.ring_rules.proofs.work.OwnEnds.{reached_owns}
+use Rattle.ring_rules.proofs.runs.OfEvents.{reached_owns}
 use Rattle.gm_member.specs.Held.{Held}
 use Rattle.gm_member.specs.Stands.{waits_for}
 use Rattle.gm_member.proofs.DoorLists.{in_places}

@@ -20,7 +20,8 @@ use Rattle.ring_rules.proofs.events.First.{first_at, first_each, first_link}
 use Rattle.ring_rules.proofs.events.Leaves.{with_opened}
 use Rattle.ring_rules.proofs.invariants.KeptLook.{kept_current-Some}
 use Rattle.ring_rules.proofs.invariants.Opening.{opening_inv}
-use Rattle.ring_rules.proofs.invariants.Happens.{IsGood, run_events, opening_good, admit_composed, can_join, joined_links}
+use Rattle.ring_rules.proofs.invariants.Happens.{IsGood, opening_good, admit_composed, can_join, joined_links}
+use Rattle.ring_rules.proofs.runs.OfEvents.{run_events}
 use Rattle.ring_rules.proofs.invariants.KeptAdmit.{CanJoin, joined_state, join_member}
 
 -- a link is there, goes to x, and wasn't taken to its end

@@ -19,11 +19,11 @@ use Rattle.ring_rules.proofs.events.Composed.{end_composed}
 use Rattle.ring_rules.proofs.events.First.{first_link_is}
 use Rattle.ring_rules.proofs.rings.Lists.{at_set}
 use Rattle.ring_rules.proofs.rings.Rounds.{nat_eq-is, nat_eq-same}
-use Rattle.ring_rules.proofs.invariants.Happens.{IsGood, event_good, opening_good, reached_good, run_events}
+use Rattle.ring_rules.proofs.invariants.Happens.{IsGood, opening_good}
+use Rattle.ring_rules.proofs.runs.OfEvents.{event_good, reached_good, run_events, event_later, reached_nobody}
 use Rattle.ring_rules.proofs.invariants.Shape.{SameEnds}
 use Rattle.ring_rules.specs.Work.{place_by, place_at}
-use Rattle.ring_rules.proofs.walks.LeftLinks.{IsLater, event_later, fails_later}
-use Rattle.ring_rules.proofs.work.Nobody.{reached_nobody}
+use Rattle.ring_rules.proofs.walks.LeftLinks.{IsLater, fails_later}
 use Rattle.ring_rules.proofs.work.Places.{IsWritten, KeepsPlaces, left_fails, written, unwritten, written_places, leave_places, refresh_places, pick_places}
 use Rattle.ring_rules.proofs.work.Refreshed.{opened_world, old_links, sending_member, link_old, link_new, links_more, refresh_cases}
 use Rattle.gm_member.specs.Stands.{waits_for}

@@ -14,7 +14,8 @@ use Rattle.ring_rules.specs.Event.{IsRun, last}
 use Rattle.ring_rules.proofs.rings.Lists.{at_set, at_push, get_or_beyond}
 use Rattle.ring_rules.proofs.events.First.{first_link}
 use Rattle.ring_rules.proofs.invariants.Happens.{IsGood, opening_good}
-use Rattle.ring_rules.proofs.events.Parts.{Part, cast_part, put_part, take_part, begin_part, come_part, gain_part, stop_part, open_part, still_part, run_keeps}
+use Rattle.ring_rules.proofs.events.Parts.{Part, cast_part, put_part, take_part, begin_part, come_part, gain_part, stop_part, open_part, still_part}
+use Rattle.ring_rules.proofs.runs.OfEvents.{run_keeps}
 use Rattle.ring_rules.proofs.runs.LinkCredit.{LinkIsKept, IsCredited, part_credited, opening_credited}
 use Rattle.ring_parties.proofs.lists.Grants.{ArePositive, ArePositive-count, ArePositive-with_grant}
 

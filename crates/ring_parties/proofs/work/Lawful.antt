@@ -7,7 +7,8 @@ use Rattle.ring_rules.specs.declared.event.Event.{Event}
 use Rattle.ring_rules.specs.Machine.{World, link_at}
 use Rattle.ring_rules.specs.Step.{opening}
 use Rattle.ring_rules.specs.Event.{IsRun, last}
-use Rattle.ring_rules.proofs.runs.LinkCredit.{LinkIsKept, run_credited}
+use Rattle.ring_rules.proofs.runs.LinkCredit.{LinkIsKept}
+use Rattle.ring_rules.proofs.runs.OfEvents.{run_credited}
 use Rattle.gm_member.specs.Held.{joining_held}
 use Rattle.gm_member.specs.Stands.{held_in, WaitsThere}
 use Rattle.gm_member.proofs.Fit.{IsFit, reached_fit}

@@ -5,7 +5,7 @@ use Rattle.group_view.specs.Change.{AreOpeningNames}
 use Rattle.ring_rules.specs.Rows.{lo_of}
 use Rattle.ring_rules.specs.Machine.{Packet, Sending, World, row_at, numbers_at, member_at, link_at, runs_phase}
 use Rattle.ring_rules.specs.Step.{next_packet, opening}
-use Rattle.ring_rules.specs.Event.{Event, IsRun, last}
+use Rattle.ring_rules.specs.Act.{Act, IsRun, last}
 use Rattle.ring_rules.specs.Compact.{passed, IsInTurn, before_next, HasSentForgot, HoldsNext, IsCompact}
 use Rattle.ring_rules.proofs.walks.Packets.{reads_forgot, line_of_packet}
 use Rattle.ring_rules.proofs.runs.HasSent.{taken_last, reached_has}
@@ -40,7 +40,7 @@ next_held w t h x o p up out some lt = by_fresh (link_at w o).sending.fresh refl
     by_fresh false e = let is : (numbers_at k p).lo ≡ (numbers_at s.sent p).got = goes_on ∙ ap (λ b. lo_of b (numbers_at k p).forgot (numbers_at s.sent p)) e in omega (arith, is, h x o p up out e some lt)
 
 -- in every state of every run of a ring with these names
-pub reached_compact : (credit : CreditSpec) (names : List (List ℕ)) (es : List Event) → AreOpeningNames names → IsRun (opening credit names) es → IsCompact (last (opening credit names) es)
+pub reached_compact : (credit : CreditSpec) (names : List (List ℕ)) (es : List Act) → AreOpeningNames names → IsRun (opening credit names) es → IsCompact (last (opening credit names) es)
 reached_compact credit names es are r =
     let w : World = last (opening credit names) es in
     let t : IsTurned w = reached_turned credit names es are r in

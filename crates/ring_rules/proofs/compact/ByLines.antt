@@ -12,7 +12,7 @@ use Rattle.ring_rules.specs.Rows.{Row, messages_between, brought, taken_row}
 use Rattle.ring_rules.specs.Refusal.{is_empty}
 use Rattle.ring_rules.specs.Machine.{Packet, Link, World, no_packet, row_at, numbers_at, member_at, link_at, view_in, runs, runs_phase, oldest}
 use Rattle.ring_rules.specs.Step.{size, log_of, brought_at, take_from, taker, is_owned, with_member, with_link, popped, opening}
-use Rattle.ring_rules.specs.Event.{Event, IsRun, last}
+use Rattle.ring_rules.specs.Act.{Act, IsRun, last}
 use Rattle.ring_rules.specs.Lawful.{NumbersAreWithin}
 use Rattle.ring_rules.specs.Compact.{has_line, line_in, line_news, take_lines_from, TakesByLines, Has, HasTaken}
 use Rattle.ring_rules.proofs.events.WhatRefuses.{MayTake}
@@ -145,7 +145,7 @@ module _ (w : World) (y s : ℕ) (m : MayTake w y s) (inv : Inv w) (lg : IsLogge
 -- ---- every state of every run
 
 -- in every state of every run of a ring with these names
-pub reached_by_lines : (credit : CreditSpec) (names : List (List ℕ)) (es : List Event) → AreOpeningNames names → IsRun (opening credit names) es → TakesByLines (last (opening credit names) es)
+pub reached_by_lines : (credit : CreditSpec) (names : List (List ℕ)) (es : List Act) → AreOpeningNames names → IsRun (opening credit names) es → TakesByLines (last (opening credit names) es)
 reached_by_lines credit names es are r y s lt up current has version =
     let w : World = last (opening credit names) es in
     same_take w y s (record { is_member = lt; up = up; current = current; has = has; version = version }) (reached_good credit names es are r).inv (run_logged credit names es are r) (reached_has taken_last credit names es are r)

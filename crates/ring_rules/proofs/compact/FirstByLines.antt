@@ -7,7 +7,7 @@ use Rattle.ring_rules.specs.declared.numbers.Numbers.{Numbers}
 use Rattle.ring_rules.specs.Rows.{Row}
 use Rattle.ring_rules.specs.Machine.{Waiting, Up, Link, World, row_at, numbers_at, member_at, link_at, oldest}
 use Rattle.ring_rules.specs.Step.{size, begun_row, begun, begin_from, with_member, with_link, popped, opening}
-use Rattle.ring_rules.specs.Event.{Event, IsRun, last}
+use Rattle.ring_rules.specs.Act.{Act, IsRun, last}
 use Rattle.ring_rules.specs.Compact.{has_line, line_in, begin_lines_from, BeginsByLines}
 use Rattle.ring_rules.proofs.invariants.Kept.{Inv}
 use Rattle.ring_rules.proofs.invariants.Happens.{opening_good, reached_good}
@@ -54,7 +54,7 @@ module _ (w : World) (y s : ℕ) (waits : (member_at w y).phase ≡ Waiting) (cu
   same_begin = ap (λ (rs : List Row). with_link (with_member w y (record (member_at w y) { phase = Up; rows = rs; whole = false })) s (popped l)) (map-range_same _ _ (size w) same_row)
 
 -- in every state of every run of a ring with these names
-pub reached_first_by_lines : (credit : CreditSpec) (names : List (List ℕ)) (es : List Event) → AreOpeningNames names → IsRun (opening credit names) es → BeginsByLines (last (opening credit names) es)
+pub reached_first_by_lines : (credit : CreditSpec) (names : List (List ℕ)) (es : List Act) → AreOpeningNames names → IsRun (opening credit names) es → BeginsByLines (last (opening credit names) es)
 reached_first_by_lines credit names es are r y s waits current =
     let w : World = last (opening credit names) es in
     same_begin w y s waits current (reached_good credit names es are r).inv (run_logged credit names es are r) (reached_lines credit names es are r)

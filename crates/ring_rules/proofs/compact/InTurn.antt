@@ -11,8 +11,9 @@ use Rattle.ring_rules.specs.Rows.{Row, no_row, no_numbers, lo_of}
 use Rattle.ring_rules.specs.Refusal.{is_empty}
 use Rattle.ring_rules.specs.View.{right_of}
 use Rattle.ring_rules.specs.Machine.{Up, Moved, Halted, Packet, Member, Sending, Link, World, no_packet, no_link, no_member, no_sending, row_at, numbers_at, member_at, link_at, view_in, newest, runs, runs_phase, oldest}
-use Rattle.ring_rules.specs.Step.{size, next_lines, next_packet, put_on, pushed, popped, gain_on, publish_at, published, take_from, taker, begun, begin_from, current_is, with_current, leave_link, stop_at, stopped, end_out, ended, with_member, with_link, with_view, look_at, moved_to, open_to, opened_link, joiner, come_to, opening}
-use Rattle.ring_rules.specs.Event.{Event, send_to, refreshed, erased_view, refusal, effect, IsRun, last, synced_view}
+use Rattle.ring_rules.specs.Step.{copied, copied_at, size, next_lines, next_packet, put_on, pushed, popped, gain_on, publish_at, published, take_from, taker, begun, begin_from, current_is, with_current, leave_link, stop_at, stopped, end_out, ended, with_member, with_link, with_view, look_at, moved_to, open_to, opened_link, joiner, come_to, opening}
+use Rattle.ring_rules.specs.Event.{send_to, refreshed, erased_view, synced_view}
+use Rattle.ring_rules.specs.Act.{Act, refusal, effect, IsRun, last}
 use Rattle.ring_rules.specs.Compact.{passed, GoesOnFrom, IsInTurn, GoesInTurn}
 use Rattle.ring_rules.proofs.events.WhatRefuses.{MayTake, MayBegin}
 use Rattle.ring_rules.proofs.rings.Lists.{at_set, get_or_beyond}
@@ -22,10 +23,10 @@ use Rattle.ring_rules.proofs.invariants.Kept.{Inv}
 use Rattle.ring_rules.proofs.invariants.KeptAdmit.{CanJoin}
 use Rattle.ring_rules.proofs.invariants.FromLeft.{IsGood}
 use Rattle.ring_rules.proofs.invariants.Happens.{opening_good, mark_good, erase_good, sync_there, sync_good, can_join}
-use Rattle.ring_rules.proofs.events.Cases.{each_event}
+use Rattle.ring_rules.proofs.events.Cases.{each_act}
 use Rattle.ring_rules.proofs.events.First.{first_link}
 use Rattle.ring_rules.proofs.runs.Lines.{Still}
-use Rattle.ring_rules.proofs.runs.LinesKept.{OwnedStays, cast_still, gain_still, end_still, stop_still, leave_still, look_still, mark_still, owned_stays, come_owned, come_was}
+use Rattle.ring_rules.proofs.runs.LinesKept.{copied_still, OwnedStays, cast_still, gain_still, end_still, stop_still, leave_still, look_still, mark_still, owned_stays, come_owned, come_was}
 use Rattle.ring_rules.proofs.events.Leaves.{come_each}
 use Rattle.ring_rules.proofs.runs.NeverFalls.{take_rises, begin_rises}
 use Rattle.ring_rules.proofs.runs.OwnLogs.{IsLogged, run_knowing, opening_logged}
@@ -244,8 +245,8 @@ admit_turned w m name j good h =
 -- ---- every state of every run
 
 -- one event more
-event_turned : (w : World) (e : Event) → IsGood w → IsLogged w → IsTurned w → refusal w e ≡ None → IsTurned (effect w e)
-event_turned w e g lg h r = each_event IsTurned w e g (record {
+act_turned : (w : World) (e : Act) → IsGood w → IsLogged w → IsTurned w → refusal w e ≡ None → IsTurned (effect w e)
+act_turned w e g lg h r = each_act IsTurned w e g (record {
   casts = λ x m u _. still_turned w (publish_at w x m) (cast_still w x m u.lt) (same_outs w x (published x m (member_at w x)) w.links u.lt refl) h;
   puts = λ x o u out _. put_turned w x o u.up out g.inv h;
   takes = λ y s u m. take_turned w y s m g.inv lg h;
@@ -262,7 +263,7 @@ event_turned w e g lg h r = each_event IsTurned w e g (record {
       refresh_turned w x v u.lt m.later (owned_stays w x v g rx m.later m.upto) (sends_within w g.inv) rx h;
   picks = λ y s u none door upto. pick_turned w y (Some s) u.lt h;
   refuses = h;
-}) r
+}) (λ x m u _. still_turned w (copied_at w x m) (copied_still w x m u.lt) (same_outs w x (copied m (member_at w x)) w.links u.lt refl) h) r
 
 -- nothing was put yet
 opening_turned : (credit : CreditSpec) (names : List (List ℕ)) → IsTurned (opening credit names)
@@ -272,6 +273,6 @@ opening_turned credit names = record {
 }
 
 -- so in every state of every run of a ring with these names
-pub reached_turned : (credit : CreditSpec) (names : List (List ℕ)) (es : List Event) → AreOpeningNames names → IsRun (opening credit names) es → IsTurned (last (opening credit names) es)
+pub reached_turned : (credit : CreditSpec) (names : List (List ℕ)) (es : List Act) → AreOpeningNames names → IsRun (opening credit names) es → IsTurned (last (opening credit names) es)
 reached_turned credit names es are r =
-    run_knowing IsTurned (λ w e g q lg h. event_turned w e g lg h q) (opening credit names) es (opening_good credit names are) r (opening_logged credit names) (opening_turned credit names)
+    run_knowing IsTurned (λ w e g q lg h. act_turned w e g lg h q) (opening credit names) es (opening_good credit names are) r (opening_logged credit names) (opening_turned credit names)

@@ -5,12 +5,12 @@ use Rattle.std.proofs.lemmas.Bool.{cases_eq, cases_lt}
 use Rattle.std.proofs.lemmas.List.{length-set, length_push, get_or-set_other, get_or-set_same, get_or_append_left, get_or_push}
 use Rattle.queue_core.specs.declared.message.Message.{Message}
 use Rattle.queue_core.specs.declared.op.Op.{Op}
-use Rattle.queue_mirror.specs.Mirror.{apply_ops}
+use Rattle.queue_mirror.specs.Mirror.{MirrorState, apply_ops}
 use Rattle.queue_laws.specs.Part.{ops}
 use Rattle.group_view.specs.View.{Group}
 use Rattle.ring_rules.specs.Rows.{Row, born_row, brought, taken_row}
 use Rattle.ring_rules.specs.Machine.{Member, Moved, Halted, Link, World, no_link, no_member, row_at, numbers_at, member_at, link_at, view_in, newest, is_kept, is_kept_of, oldest}
-use Rattle.ring_rules.specs.Step.{size, log_of, taker, begun, is_owned, with_member, with_link, with_view, look_at, moved_to, kept_current, open_to, opened_link, ended, end_out, joiner, admitted_view, come_to, current_is, with_current}
+use Rattle.ring_rules.specs.Step.{copied, copied_at, size, log_of, taker, begun, is_owned, with_member, with_link, with_view, look_at, moved_to, kept_current, open_to, opened_link, ended, end_out, joiner, admitted_view, come_to, current_is, with_current}
 use Rattle.ring_rules.specs.Event.{send_to, refreshed}
 use Rattle.ring_rules.specs.View.{right_of}
 use Rattle.ring_rules.proofs.rings.Lists.{at_set, get_or_beyond}
@@ -277,6 +277,13 @@ pub like_current_is : (w v : World) (x y : ℕ) (c : Option ℕ) → Like w v x 
 like_current_is w v x y c h lt = ⊎_elim
     (λ (is : x ≡ y). subst (λ k. k < size w → Like (current_is w k c) (current_is v k c) x) is (λ l. like_me w v x h (with_current c (member_at w x)) (with_current c (member_at v x)) l (record { phase = h.phase; version = h.version; log = h.log; out = h.out; current = refl })) lt)
     (λ (ne : x ≢ y). let na : y ≢ x = λ is. ne (sym is) in like_member w v x h y (with_current c (member_at w y)) (with_current c (member_at v y)) na lt (ap (with_current c) (h.others y na)))
+    (cases_eq x y)
+
+-- somebody's mirror is the one that a copy has made
+pub like_copied : (w v : World) (x y : ℕ) (m : MirrorState) → Like w v x → y < size w → Like (copied_at w y m) (copied_at v y m) x
+like_copied w v x y m h lt = ⊎_elim
+    (λ (is : x ≡ y). subst (λ k. k < size w → Like (copied_at w k m) (copied_at v k m) x) is (λ l. like_me w v x h (copied m (member_at w x)) (copied m (member_at v x)) l (record { phase = h.phase; version = h.version; log = h.log; out = h.out; current = h.current })) lt)
+    (λ (ne : x ≢ y). let na : y ≢ x = λ is. ne (sym is) in like_member w v x h y (copied m (member_at w y)) (copied m (member_at v y)) na lt (ap (copied m) (h.others y na)))
     (cases_eq x y)
 
 -- the out link of another ends

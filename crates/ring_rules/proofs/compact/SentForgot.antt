@@ -1,6 +1,7 @@
 -- What a member has forgotten isn't above the got that it sent last. For each one that sent something the state is kept in which
 -- it has still the rows of its last put: what it takes since then goes from its link, and nothing else. That is a good state too.
 use Rattle.std.proofs.Common.{◌≡◌, ◌≢◌, ℕ, ◌+◌, ◌<◌, ◌≤◌, Bool, true, false, nat_eq, List, [], ◌∷◌, ◌++◌, length, get_or, set, Option, Some, None, refl, sym, ap, subst, ◌∙◌, ⊎_elim, if◌then◌else◌, arith}
+use Rattle.queue_mirror.specs.Mirror.{MirrorState}
 use Rattle.std.proofs.lemmas.Bool.{false≢true, cases_eq, cases_lt}
 use Rattle.std.proofs.lemmas.List.{length-set, length_push, get_or-set_other, get_or-set_same, get_or_append_left, get_or_push}
 use Rattle.queue_core.specs.declared.message.Message.{Message}
@@ -12,9 +13,10 @@ use Rattle.ring_rules.specs.Rows.{Row, regained, taken_row}
 use Rattle.ring_rules.specs.Refusal.{is_empty}
 use Rattle.ring_rules.specs.View.{is_live, right_of}
 use Rattle.ring_rules.specs.Machine.{Waiting, Up, Stopped, Moved, Halted, Packet, Member, Link, World, no_packet, no_link, no_member, no_sending, row_at, numbers_at, member_at, link_at, view_in, newest, runs, runs_phase, is_kept, is_waiting, oldest}
-use Rattle.ring_rules.specs.Step.{size, log_of, put_on, pushed, popped, next_packet, publish_at, published, take_from, taker, begun, begin_from, is_owned, current_is, with_current, leave_link, finished, stop_at, stopped, end_out, ended, with_member, with_link, with_view, look_at, moved_to, open_to, opened_link, joiner, come_to, opening}
+use Rattle.ring_rules.specs.Step.{copied, copied_at, size, log_of, put_on, pushed, popped, next_packet, publish_at, published, take_from, taker, begun, begin_from, is_owned, current_is, with_current, leave_link, finished, stop_at, stopped, end_out, ended, with_member, with_link, with_view, look_at, moved_to, open_to, opened_link, joiner, come_to, opening}
 use Rattle.group_view.proofs.Syncing.{Unsynced}
-use Rattle.ring_rules.specs.Event.{Event, send_to, refreshed, erased_view, admit_refusal, refusal, effect, IsRun, last, synced_view}
+use Rattle.ring_rules.specs.Event.{send_to, refreshed, erased_view, admit_refusal, synced_view}
+use Rattle.ring_rules.specs.Act.{Act, refusal, effect, IsRun, last}
 use Rattle.ring_rules.specs.Compact.{HasSentForgot}
 use Rattle.ring_rules.proofs.events.WhatRefuses.{MayTake, MayBegin, IsPickable, MayLook, IsSameWay}
 use Rattle.ring_rules.proofs.rings.Lists.{at_set, get_or_beyond}
@@ -26,8 +28,8 @@ use Rattle.ring_rules.proofs.invariants.Kept.{Inv, set_alike}
 use Rattle.ring_rules.proofs.invariants.KeptCast.{gained_rows}
 use Rattle.ring_rules.proofs.invariants.KeptAdmit.{CanJoin, receivers}
 use Rattle.ring_rules.proofs.invariants.FromLeft.{IsGood}
-use Rattle.ring_rules.proofs.invariants.Happens.{opening_good, cast_good, put_good, take_good, begin_good, way_good, current_good, nothing_pickable, stop_good, refresh_good, mark_good, erase_good, sync_there, sync_good, admit_good, can_join, door_pickable, right_in_come}
-use Rattle.ring_rules.proofs.events.Cases.{each_event}
+use Rattle.ring_rules.proofs.invariants.Happens.{copied_good, opening_good, cast_good, put_good, take_good, begin_good, way_good, current_good, nothing_pickable, stop_good, refresh_good, mark_good, erase_good, sync_there, sync_good, admit_good, can_join, door_pickable, right_in_come}
+use Rattle.ring_rules.proofs.events.Cases.{each_act}
 use Rattle.ring_rules.proofs.events.First.{first_each, first_link}
 use Rattle.ring_rules.proofs.events.Leaves.{come_each}
 use Rattle.ring_rules.proofs.runs.LinesKept.{come_was}
@@ -35,7 +37,7 @@ use Rattle.ring_rules.proofs.runs.OwnLogs.{IsLogged, run_knowing, opening_logged
 use Rattle.ring_rules.proofs.events.Parts.{member_still, view_still}
 use Rattle.ring_rules.proofs.compact.PacketGone.{pop_good}
 use Rattle.ring_rules.proofs.compact.OtherLog.{with_log, log_good}
-use Rattle.ring_rules.proofs.compact.OtherRows.{Like, like_same, like_link, like_phase, like_version, like_out, like_current, like_newest, like_view, like_kept, like_member, like_me, like_one, like_viewed, like_my_look, like_taker, like_begun, like_come, like_refreshed, like_rows, like_current_is, like_end}
+use Rattle.ring_rules.proofs.compact.OtherRows.{like_copied, Like, like_same, like_link, like_phase, like_version, like_out, like_current, like_newest, like_view, like_kept, like_member, like_me, like_one, like_viewed, like_my_look, like_taker, like_begun, like_come, like_refreshed, like_rows, like_current_is, like_end}
 
 -- a state in which x has the got that it sent last on o, and not less than it has forgotten
 pub record Frozen (w : World) (x o : ℕ) : Type 0 where
@@ -353,6 +355,21 @@ pick_holds w y c lt up k lg h = record {
     m : Member
     m = with_current c (member_at w y)
 
+-- a copy that is done
+copied_holds : (w : World) (y : ℕ) (m : MirrorState) → y < size w → (member_at w y).phase ≡ Up → IsLogged w → HoldsBack w → HoldsBack (copied_at w y m)
+copied_holds w y m lt up lg h = record {
+  frozen = λ x o up2 out fresh.
+      let f : Frozen w x o = h.frozen x o (sym (same_phase w y (copied m (member_at w y)) lt refl x) ∙ up2) (sym (same_out w y (copied m (member_at w y)) lt refl x) ∙ out) fresh in
+      let v : World = f.world in
+      let there : y < size v = both_there w v x f.like y lt in
+      carry w (copied_at w y m) (copied_at v y m) x o f lg
+      (copied_good v y m there (like_phase w v x f.like y ∙ up) f.good)
+      (like_copied w v x y m f.like lt)
+      (λ p. ap (λ rs. (row_at (record (member_at w x) { rows = rs }) p).forgot) (same_rows w y (copied m (member_at w y)) lt refl x))
+      (λ p. ap (λ rs. (row_at (record (member_at v x) { rows = rs }) p).got) (same_rows v y (copied m (member_at v y)) there refl x)) refl;
+  silent = still_silent w y (copied m (member_at w y)) lt (ap is_waiting up) h;
+}
+
 -- a link goes the same way, with the same sending side
 way_holds : (w : World) (s : ℕ) (change : Link → Link) → ((l : Link) → IsSameWay l (change l)) → ((l : Link) → (change l).sending ≡ l.sending) → s < length w.links → IsLogged w → HoldsBack w → HoldsBack (with_link w s (change (link_at w s)))
 way_holds w s change way sends lt lg h = record {
@@ -625,8 +642,8 @@ same_synced : (w v : World) (x d : ℕ) → Like w v x → synced_view v d ≡ s
 same_synced w v x d h = ap (λ vs. synced_view (record w { views = vs }) d) h.views
 
 -- one event more
-event_holds : (w : World) (e : Event) → IsGood w → IsLogged w → HoldsBack w → refusal w e ≡ None → HoldsBack (effect w e)
-event_holds w e g lg h r = each_event HoldsBack w e g (record {
+act_holds : (w : World) (e : Act) → IsGood w → IsLogged w → HoldsBack w → refusal w e ≡ None → HoldsBack (effect w e)
+act_holds w e g lg h r = each_act HoldsBack w e g (record {
   casts = λ x m u _. cast_holds w x m u.lt u.up lg h;
   puts = λ x o u out _. put_holds w x o u.up out g lg h;
   takes = λ y s u m. take_holds w y s m g lg h;
@@ -647,7 +664,7 @@ event_holds w e g lg h r = each_event HoldsBack w e g (record {
   refreshes = λ x v u m. refresh_holds w x v m g lg h;
   picks = λ y s u none door upto. pick_holds w y (Some s) u.lt u.up (door_pickable w y s door upto g) lg h;
   refuses = h;
-}) r
+}) (λ x m u _. copied_holds w x m u.lt u.up lg h) r
 
 -- nothing was put yet, and nobody waits
 opening_holds : (credit : CreditSpec) (names : List (List ℕ)) → HoldsBack (opening credit names)
@@ -659,11 +676,11 @@ opening_holds credit names = record {
 }
 
 -- so in every state of every run of a ring with these names
-pub reached_holds : (credit : CreditSpec) (names : List (List ℕ)) (es : List Event) → AreOpeningNames names → IsRun (opening credit names) es → HoldsBack (last (opening credit names) es)
-reached_holds credit names es are r = run_knowing HoldsBack (λ w e g q lg k. event_holds w e g lg k q) (opening credit names) es (opening_good credit names are) r (opening_logged credit names) (opening_holds credit names)
+pub reached_holds : (credit : CreditSpec) (names : List (List ℕ)) (es : List Act) → AreOpeningNames names → IsRun (opening credit names) es → HoldsBack (last (opening credit names) es)
+reached_holds credit names es are r = run_knowing HoldsBack (λ w e g q lg k. act_holds w e g lg k q) (opening credit names) es (opening_good credit names are) r (opening_logged credit names) (opening_holds credit names)
 
 -- and nobody has forgotten more than it sent last
-pub reached_sent_forgot : (credit : CreditSpec) (names : List (List ℕ)) (es : List Event) → AreOpeningNames names → IsRun (opening credit names) es → HasSentForgot (last (opening credit names) es)
+pub reached_sent_forgot : (credit : CreditSpec) (names : List (List ℕ)) (es : List Act) → AreOpeningNames names → IsRun (opening credit names) es → HasSentForgot (last (opening credit names) es)
 reached_sent_forgot credit names es are r x o p up out sent some lt =
     let f : Frozen (last (opening credit names) es) x o = (reached_holds credit names es are r).frozen x o up out sent in
     omega (arith, f.got p, f.forgot p some lt)

@@ -3,7 +3,8 @@ use Rattle.std.proofs.Common.{◌≡◌, ℕ, ◌+◌, ◌<◌, ◌≤◌, Bool,
 use Rattle.std.proofs.lemmas.Bool.{false≢true}
 use Rattle.queue_core.specs.declared.message.Message.{Message}
 use Rattle.queue_core.specs.declared.message.Message.TheVariants as message
-use Rattle.std.specs.Prelude.{Result, Ok, Err}
+use Rattle.std.specs.Prelude.{Result, Ok, Err, ⊤}
+use Rattle.queue_mirror.specs.Mirror.{MirrorState}
 use Rattle.queue_core.specs.declared.op.Op.{Op}
 use Rattle.ring_names.specs.declared.reason.Reason.{Reason}
 use Rattle.ring_names.specs.declared.reason.Reason.TheVariants as reason
@@ -12,10 +13,11 @@ use Rattle.group_view.specs.View.{is_dead, is_alias, entry_in}
 use Rattle.group_view.proofs.Rings.{nat_eq-is}
 use Rattle.group_view.proofs.Truth.{none_there}
 use Rattle.ring_rules.specs.Machine.{Waiting, Up, Halted, World, row_at, member_at, link_at, view_in, newest, runs, runs_phase}
-use Rattle.ring_rules.specs.Step.{size, put_on, gain_on, publish_at, take_from, begin_from, come_to, current_is, leave_link, stop_at, end_out, with_view}
+use Rattle.ring_rules.specs.Step.{size, put_on, gain_on, publish_at, take_from, begin_from, come_to, copied_at, current_is, leave_link, stop_at, end_out, with_view}
 use Rattle.ring_rules.specs.declared.kind.LinkStep.TheVariants as step
 use Rattle.ring_rules.specs.declared.kind.ViewChange.TheVariants as change
 use Rattle.ring_rules.specs.Event.{Event, Saying, Own, OfQueue, Kind, Says, Steps, Changes, Stops, Reads, Tells, kind_of, MayPublish, op_as, op_refusal, op_done, queue_message, saying_refusal, said, synced_refusal, missing_refusal, synced_view, is_stopped, id_of, of_member, on_link, put_refusal, take_refusal, end_refusal, gain_refusal, version_refusal, refresh_refusal, at_door, mark_refusal, erase_refusal, not_retired, erased_view, admit_refusal, refreshed, by_of, is_for_up_kind, phase_refusal, further_as, doing_as, refused_as, refused_at, refusal, at_found, taken_by, done_as, done_at, effect}
+use Rattle.ring_rules.specs.Act.{Deed, OfKind, Copies, Act, deed_refusal, deed_done, DeedIs, refusal as act_refusal, effect as act_effect}
 use Rattle.ring_rules.proofs.events.WhatRefuses.{MayTake, MayBegin, MayLook, MayMark, MayErase, MaySync}
 use Rattle.ring_rules.proofs.events.Refusals.{none_of, refuse_none, id_within, not_less, not_false, up_or_waits}
 use Rattle.ring_rules.proofs.events.Enabled.{up_none, take_some, take_version, end_empty, mark_lives, mark_stops, refresh_later, refresh_upto}
@@ -102,15 +104,16 @@ may_erase w x d lt up h =
     let c = refuse_none (not (nat_eq (row_at (member_at w x) d).got (row_at (member_at w x) d).retired)) (not_retired w x d) b.1 in
     record { is_member = lt; up = up; dead = not_false _ a.0; owned = not_false _ b.0; come_round = nat_eq-is _ _ (not_false _ c) }
 
+-- a mirror that misses nothing
+nothing_missed : (k : Option ℕ) → missing_refusal k ≡ None → k ≡ Some 0
+nothing_missed None e = cc
+nothing_missed (Some n) e = ap Some (nat_eq-is n 0 (not_false (nat_eq n 0) (refuse_none (not (nat_eq n 0)) (reason.StillMissing (Some n)) e)))
+
 -- a member that may be registered
 pub may_sync : (w : World) (x : ℕ) → IsUp w x → synced_refusal w x ≡ None → MaySync w x
 may_sync w x u h =
     let a = none_of (entry_in (view_in w (newest w)).entries x).synced reason.AlreadySynced _ h in
     record { is_member = u.lt; up = u.up; unsynced = a.0; full = nothing_missed (member_at w x).mirror.missing a.1 }
-  where
-    nothing_missed : (k : Option ℕ) → missing_refusal k ≡ None → k ≡ Some 0
-    nothing_missed None e = cc
-    nothing_missed (Some n) e = ap Some (nat_eq-is n 0 (not_false (nat_eq n 0) (refuse_none (not (nat_eq n 0)) (reason.StillMissing (Some n)) e)))
 
 -- a view that may be read
 pub may_look : (w : World) (x v : ℕ) → x < size w → (member_at w x).phase ≡ Up → refresh_refusal w x v ≡ None → MayLook w x v
@@ -191,3 +194,32 @@ each_at P w (Reads version) x g c some lt h = each_done P w (Reads version) x g 
 -- what each event does under its conditions is what an event does that may happen
 pub each_event : (P : World → Type 0) (w : World) (e : Event) → IsGood w → Cases P w → refusal w e ≡ None → P (effect w e)
 each_event P w e g c r = at_named P w (by_of e) (refused_at w e) (done_at w e) r (λ x some lt k. each_at P w (kind_of e) x g c some lt k)
+
+-- ---- acts
+
+-- P holds after each copy that is done, where C is known of the mirror that it makes
+abbrev pub EachCopy : (ℕ → MirrorState → Type 0) → (World → Type 0) → World → Type 0
+EachCopy C P w = (x : ℕ) (m : MirrorState) → IsUp w x → m.missing ≡ Some 0 → C x m → P (copied_at w x m)
+
+-- what a member does
+each_deed : (C : ℕ → MirrorState → Type 0) (P : World → Type 0) (w : World) (x : ℕ) (d : Deed) → IsGood w → Cases P w → EachCopy C P w → 1 ≤ x → x < size w → DeedIs C x d → deed_refusal w x d ≡ None → P (deed_done w x d)
+each_deed C P w x (OfKind k) g c copies some lt is h = each_at P w k x g c some lt h
+each_deed C P w x (Copies m) g c copies some lt is h =
+    let u = up_none w x _ h in
+    copies x m (record { some = some; lt = lt; up = u.0 }) (nothing_missed m.missing u.1) is
+
+-- what each event does under its conditions, and each copy that is done, is what an act does that may happen
+pub each_act_of : (C : ℕ → MirrorState → Type 0) (P : World → Type 0) (w : World) (a : Act) → IsGood w → Cases P w → EachCopy C P w → ((x : ℕ) → id_of w a.by ≡ Some x → DeedIs C x a.deed) → act_refusal w a ≡ None → P (act_effect w a)
+each_act_of C P w a g c copies is r = by_id (id_of w a.by) refl r
+  where
+    by_id : (o : Option ℕ) → id_of w a.by ≡ o → of_member o (λ x. deed_refusal w x a.deed) ≡ None → P (at_found o w (λ x. deed_done w x a.deed))
+    by_id None e h = cc
+    by_id (Some x) e h = let i = id_within w a.by x e in each_deed C P w x a.deed g c copies i.0 i.1 (is x e) h
+
+-- where nothing is known of such a mirror
+pub each_act : (P : World → Type 0) (w : World) (a : Act) → IsGood w → Cases P w → ((x : ℕ) (m : MirrorState) → IsUp w x → m.missing ≡ Some 0 → P (copied_at w x m)) → act_refusal w a ≡ None → P (act_effect w a)
+each_act P w a g c copies r = each_act_of (λ x m. ⊤) P w a g c (λ x m u none _. copies x m u none) (λ x e. nothing_known x a.deed) r
+  where
+    nothing_known : (x : ℕ) (d : Deed) → DeedIs (λ x m. ⊤) x d
+    nothing_known x (OfKind k) = tt
+    nothing_known x (Copies m) = tt

@@ -8,14 +8,15 @@ use Rattle.group_view.specs.Change.{marked}
 use Rattle.group_view.specs.View.{Group}
 use Rattle.ring_rules.specs.View.{right_of}
 use Rattle.ring_rules.specs.Machine.{Member, Ending, Moved, Halted, Link, World, member_at, link_at, view_in, newest, runs_phase, row_at}
-use Rattle.ring_rules.specs.Step.{size, publish_at, put_on, gain_on, take_from, current_is, with_current, leave_link, finished, ended, stop_at, with_member, with_link, with_view, look_at, moved_to, open_to, begin_from, come_to}
-use Rattle.ring_rules.specs.Event.{Event, refreshed, refusal, effect, IsRun, last, erased_view, synced_view}
+use Rattle.ring_rules.specs.Step.{copied, copied_at, size, publish_at, put_on, gain_on, take_from, current_is, with_current, leave_link, finished, ended, stop_at, with_member, with_link, with_view, look_at, moved_to, open_to, begin_from, come_to}
+use Rattle.ring_rules.specs.Event.{refreshed, erased_view, synced_view}
+use Rattle.ring_rules.specs.Act.{Act, refusal, effect, IsRun, last}
 use Rattle.ring_rules.proofs.events.WhatRefuses.{MayTake, MayBegin}
 use Rattle.ring_rules.proofs.events.Leaves.{member_leaves, link_leaves}
 use Rattle.ring_rules.proofs.events.Enabled.{put_credit, gain_some}
-use Rattle.ring_rules.proofs.events.Cases.{each_event}
+use Rattle.ring_rules.proofs.events.Cases.{each_act}
 use Rattle.ring_rules.proofs.events.Composed.{end_composed, refresh_composed}
-use Rattle.ring_rules.proofs.invariants.Happens.{IsGood, run_events}
+use Rattle.ring_rules.proofs.invariants.Happens.{IsGood, run_acts}
 
 -- the members' rows and logs are as before
 pub record IsSameRows (w w' : World) : Type 0 where
@@ -130,8 +131,8 @@ module _ (G P : World → Type 0) (keeps : (w w' : World) → Part G w w' → P 
   view_keeps w x v h = refreshed_keeps (with_view w v) x (newest w + 1) (still_keeps w (with_view w v) (view_still w v) h)
 
   -- an event of a state that is good
-  pub event_keeps : (w : World) (e : Event) → IsGood w → G w → refusal w e ≡ None → P w → P (effect w e)
-  event_keeps w e g gw r h = each_event P w e g (record {
+  pub act_keeps : (w : World) (e : Act) → IsGood w → G w → refusal w e ≡ None → P w → P (effect w e)
+  act_keeps w e g gw r h = each_act P w e g (record {
     casts = λ x m u _. keeps w _ (cast_part x m u.some u.lt refl) h;
     puts = λ x o u out k. keeps w _ (put_part x o (g.inv.linked.out_lt x o (ap runs_phase u.up) out) (put_credit w x o k) refl) h;
     takes = λ y s u m. keeps w _ (take_part y s u.some m (g.inv.current.lt y s (ap runs_phase u.up) m.current) gw refl) h;
@@ -148,10 +149,10 @@ module _ (G P : World → Type 0) (keeps : (w w' : World) → Part G w w' → P 
     refreshes = λ x v u m. refreshed_keeps w x v h;
     picks = λ y s u none e upto. still_keeps w (current_is w y (Some s)) (member_still w y (with_current (Some s) (member_at w y)) refl refl refl) h;
     refuses = h;
-  }) r
+  }) (λ x m u _. still_keeps w (copied_at w x m) (member_still w x (copied m (member_at w x)) refl refl refl) h) r
 
 -- ---- runs
 
 -- what the parts of every event keep, every run keeps
-pub run_keeps : (P : World → Type 0) → ((w w' : World) → Part IsGood w w' → P w → P w') → (w : World) (es : List Event) → IsGood w → IsRun w es → P w → P (last w es)
-run_keeps P keeps w es = run_events P (λ v e g r h. event_keeps IsGood P keeps v e g g r h) w es
+pub run_keeps : (P : World → Type 0) → ((w w' : World) → Part IsGood w w' → P w → P w') → (w : World) (es : List Act) → IsGood w → IsRun w es → P w → P (last w es)
+run_keeps P keeps w es = run_acts P (λ v e g r h. act_keeps IsGood P keeps v e g g r h) w es

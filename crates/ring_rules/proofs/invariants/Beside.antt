@@ -7,7 +7,7 @@ use Rattle.group_view.specs.View.{Group}
 use Rattle.group_view.specs.Change.{marked}
 use Rattle.ring_rules.specs.View.{between}
 use Rattle.ring_rules.specs.Machine.{Waiting, World, Member, Link, no_link, member_at, link_at, view_in, newest, right, runs_phase, is_waiting, oldest}
-use Rattle.ring_rules.specs.Step.{size, pushed, popped, next_packet, published, taker, begun, with_current, stopped, moved_to, with_member, with_link, with_view, look_at, opened_link, open_to, opening}
+use Rattle.ring_rules.specs.Step.{copied, size, pushed, popped, next_packet, published, taker, begun, with_current, stopped, moved_to, with_member, with_link, with_view, look_at, opened_link, open_to, opening}
 use Rattle.ring_rules.specs.Event.{erased_view, synced_view}
 use Rattle.ring_rules.proofs.rings.Lists.{at_set}
 use Rattle.ring_rules.proofs.walks.Views.{view_old}
@@ -16,7 +16,7 @@ use Rattle.ring_rules.proofs.invariants.KeptOpen.{out_member}
 use Rattle.ring_rules.proofs.invariants.KeptAdmit.{join_beside}
 use Rattle.ring_rules.proofs.events.First.{first_none_waits}
 use Rattle.ring_rules.proofs.invariants.Happens.{IsGood}
-use Rattle.ring_rules.proofs.invariants.Moves.{Move, cast_move, put_move, take_move, begin_move, current_move, stop_move, way_move, look_move, open_move, mark_move, erase_move, sync_move, join_move}
+use Rattle.ring_rules.proofs.invariants.Moves.{copy_move, Move, cast_move, put_move, take_move, begin_move, current_move, stop_move, way_move, look_move, open_move, mark_move, erase_move, sync_move, join_move}
 
 -- in its view nobody stands between the sender of its current link and itself
 abbrev pub IsBeside : World → Type 0
@@ -58,6 +58,7 @@ move_beside w w' g (put_move x o up out e) h = subst IsBeside (sym e) (same_besi
 move_beside w w' g (take_move y s m e) h = subst IsBeside (sym e) (same_beside w _ (both_waits w y s (taker w y s) (popped (link_at w s)) m.is_member (ap is_waiting m.up) (g.inv.current.lt y s (ap runs_phase m.up) m.current) refl) g.inv h)
 move_beside w w' g (begin_move y s m e) h = subst IsBeside (sym e) (same_beside w _ (both_waits w y s (begun (size w) (member_at w y) (oldest (link_at w s))) (popped (link_at w s)) m.is_member refl (g.inv.current.lt y s (ap runs_phase m.waits) m.current) refl) g.inv h)
 move_beside w w' g (current_move y c lt up k e) h = subst IsBeside (sym e) (same_beside w _ (set_waits w y (with_current c (member_at w y)) lt (ap is_waiting up)) g.inv h)
+move_beside w w' g (copy_move x m lt up e) h = subst IsBeside (sym e) (same_beside w _ (set_waits w x (copied m (member_at w x)) lt (ap is_waiting up)) g.inv h)
 move_beside w w' g (stop_move x lt rx e) h = subst IsBeside (sym e) (same_beside w _ (set_waits w x (stopped (member_at w x)) lt refl) g.inv h)
 move_beside w w' g (way_move s l lt k e) h = subst IsBeside (sym e) (same_beside w _ (link_waits w s l lt k.sender) g.inv h)
 move_beside w w' g (look_move x v m e) h = subst IsBeside (sym e) (same_beside w _ (set_waits w x (moved_to w x v) m.is_member (ap is_waiting m.up)) g.inv h)

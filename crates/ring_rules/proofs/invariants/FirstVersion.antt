@@ -3,7 +3,7 @@ use Rattle.std.proofs.Common.{◌≡◌, ◌≢◌, ℕ, ◌≤◌, true, List, 
 use Rattle.ring_names.specs.declared.numbers.CreditSpec.{CreditSpec}
 use Rattle.ring_rules.specs.Machine.{Waiting, Up, World, Member, no_member, no_link, member_at, link_at, runs_phase, oldest}
 use Rattle.group_view.specs.Change.{AreOpeningNames}
-use Rattle.ring_rules.specs.Event.{Event, IsRun, last}
+use Rattle.ring_rules.specs.Act.{Act, IsRun, last}
 use Rattle.ring_rules.specs.Step.{size, popped, begun, begin_from, opening}
 use Rattle.ring_rules.proofs.rings.Lists.{at_set}
 use Rattle.ring_rules.proofs.events.WhatRefuses.{MayBegin}
@@ -12,7 +12,7 @@ use Rattle.ring_rules.proofs.invariants.KeptAdmit.{join_version}
 use Rattle.ring_rules.proofs.events.First.{first_none_waits}
 use Rattle.ring_rules.proofs.invariants.Happens.{IsGood, opening_good}
 use Rattle.ring_rules.proofs.runs.OwnLogs.{opening_logged, run_knowing}
-use Rattle.ring_rules.proofs.invariants.Moves.{Move, event_moves}
+use Rattle.ring_rules.proofs.invariants.Moves.{Move, act_moves}
 use Rattle.ring_rules.proofs.runs.JoinsInTime.{Alike, Stays, once, twice, begins, joins, IsHere, move_stays}
 
 abbrev pub IsFirstOld : World → Type 0
@@ -60,6 +60,6 @@ pub opening_old : (credit : CreditSpec) (names : List (List ℕ)) → IsFirstOld
 opening_old credit names q s e = absurd (first_none_waits credit names q e)
 
 -- in every state of every run
-pub reached_old : (credit : CreditSpec) (names : List (List ℕ)) (es : List Event) → AreOpeningNames names → IsRun (opening credit names) es → IsFirstOld (last (opening credit names) es)
+pub reached_old : (credit : CreditSpec) (names : List (List ℕ)) (es : List Act) → AreOpeningNames names → IsRun (opening credit names) es → IsFirstOld (last (opening credit names) es)
 reached_old credit names es are r =
-    run_knowing IsFirstOld (λ w e g q l h. event_moves IsHere IsFirstOld move_old w e g (record { good = g; logged = l }) q h) (opening credit names) es (opening_good credit names are) r (opening_logged credit names) (opening_old credit names)
+    run_knowing IsFirstOld (λ w e g q l h. act_moves IsHere IsFirstOld move_old w e g (record { good = g; logged = l }) q h) (opening credit names) es (opening_good credit names are) r (opening_logged credit names) (opening_old credit names)

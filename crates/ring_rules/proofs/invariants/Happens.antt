@@ -1,5 +1,6 @@
 -- Each event that may happen keeps the whole invariant.
 use Rattle.group_view.specs.Ring.{is_in}
+use Rattle.queue_mirror.specs.Mirror.{MirrorState}
 use Rattle.std.proofs.Common.{◌≡◌, ◌≢◌, ℕ, ◌+◌, ◌<◌, ◌≤◌, Bool, true, false, nat_eq, List, [], ◌∷◌, ◌++◌, length, set, Option, Some, None, refl, sym, ap, subst, ◌∙◌, if◌then◌else◌, arith, map, nat_lt, nat_le, is_some}
 use Rattle.std.specs.Prelude.{◌&&◌}
 use Rattle.std.proofs.lemmas.Bool.{false≢true}
@@ -14,9 +15,10 @@ use Rattle.group_view.proofs.History.{Ends, opening_begins, Follows, goes_on, la
 use Rattle.group_view.proofs.Passing.{live_in, dead_in}
 use Rattle.ring_rules.specs.View.{is_live, right_of, right_by, ids}
 use Rattle.ring_rules.specs.Machine.{ring, Waiting, Up, Stopped, Member, Ending, Moved, Halted, Link, World, no_link, no_member, member_at, link_at, view_in, newest, right, runs, runs_phase, is_kept, is_waiting, oldest}
-use Rattle.ring_rules.specs.Step.{size, publish_at, put_on, take_from, current_is, with_current, finished, ended, stop_at, stopped, end_out, with_link, with_view, look_at, moved_to, open_to, opened_link, taker, published, opening, begun, begin_from, joiner, admitted_view, come_to, opening_member}
+use Rattle.ring_rules.specs.Step.{copied, copied_at, size, publish_at, put_on, take_from, current_is, with_current, finished, ended, stop_at, stopped, end_out, with_link, with_view, look_at, moved_to, open_to, opened_link, taker, published, opening, begun, begin_from, joiner, admitted_view, come_to, opening_member}
 use Rattle.ring_rules.proofs.events.WhatRefuses.{IsSameWay, MayTake, IsPickable, MayLook, MayBegin, MaySync}
-use Rattle.ring_rules.specs.Event.{Event, at_door, send_to, refreshed, refusal, effect, IsRun, last, erased_view, synced_view, admit_refusal}
+use Rattle.ring_rules.specs.Event.{at_door, send_to, refreshed, erased_view, synced_view, admit_refusal}
+use Rattle.ring_rules.specs.Act.{Act, refusal, effect, IsRun, last}
 use Rattle.ring_rules.proofs.rings.Rounds.{nat_eq-is, nat_eq-same}
 use Rattle.ring_rules.proofs.walks.Views.{view_new, newest_view, IsMarked, marked_marks, erased_marks, synced_marks, dead_rests}
 use Rattle.ring_rules.proofs.invariants.Kept.{put_keeps, Inv, set_alike}
@@ -28,7 +30,7 @@ use Rattle.ring_rules.proofs.invariants.Period.{opens_period}
 use Rattle.ring_rules.proofs.invariants.KeptBegin.{begin_keeps}
 use Rattle.ring_rules.proofs.invariants.KeptAdmit.{CanJoin, joined_state, join_keeps, right_of_m, receivers}
 use Rattle.ring_rules.proofs.invariants.KeptTake.{take_keeps}
-use Rattle.ring_rules.proofs.invariants.KeptMore.{stop_keeps, current_keeps, mark_keeps, way_keeps}
+use Rattle.ring_rules.proofs.invariants.KeptMore.{copied_keeps, stop_keeps, current_keeps, mark_keeps, way_keeps}
 use Rattle.ring_rules.proofs.invariants.KeptLook.{look_has_later, look_keeps}
 use Rattle.ring_rules.proofs.invariants.KeptOpen.{open_keeps, out_member}
 use Rattle.ring_rules.proofs.invariants.KeptCast.{cast_keeps}
@@ -37,7 +39,7 @@ use Rattle.group_view.proofs.Syncing.{Unsynced, sync_follows}
 use Rattle.ring_rules.proofs.rings.Lists.{get_or_beyond}
 use Rattle.ring_rules.proofs.invariants.Opening.{opening_inv}
 use Rattle.ring_rules.proofs.events.Refusals.{none_of, refuse_none, open_after_end, waits_when}
-use Rattle.ring_rules.proofs.events.Cases.{each_event}
+use Rattle.ring_rules.proofs.events.Cases.{each_act}
 use Rattle.ring_rules.proofs.events.Composed.{end_composed}
 use Rattle.ring_rules.proofs.invariants.Good.{IsRing}
 pub use Rattle.ring_rules.proofs.invariants.FromLeft.{HasViews, HasNextId, IsGood}
@@ -72,6 +74,14 @@ current_good w y c lt up k h = record {
   inv = current_keeps w y c lt up k h.inv;
   next_id = h.next_id ∙ sym (length-set w.members y (with_current c (member_at w y)));
   views = same_views w (set w.members y (with_current c (member_at w y))) w.links h.views;
+}
+
+-- a copy that is done
+pub copied_good : (w : World) (x : ℕ) (m : MirrorState) → x < size w → (member_at w x).phase ≡ Up → IsGood w → IsGood (copied_at w x m)
+copied_good w x m lt up h = record {
+  inv = copied_keeps w x m lt up h.inv;
+  next_id = h.next_id ∙ sym (length-set w.members x (copied m (member_at w x)));
+  views = same_views w (set w.members x (copied m (member_at w x))) w.links h.views;
 }
 
 pub nothing_pickable : (w : World) (y : ℕ) → IsPickable w y None
@@ -374,8 +384,8 @@ door_pickable w y s e upto h = record {
 -- ---- events
 
 -- one event more
-pub event_good : (w : World) (e : Event) → IsGood w → refusal w e ≡ None → IsGood (effect w e)
-event_good w e h r = each_event IsGood w e h (record {
+pub act_good : (w : World) (e : Act) → IsGood w → refusal w e ≡ None → IsGood (effect w e)
+act_good w e h r = each_act IsGood w e h (record {
   casts = λ x m u _. cast_good w x m u.lt u.up h;
   puts = λ x o u out k. put_good w x o u.up out h;
   takes = λ y s u m. take_good w y s m h;
@@ -392,16 +402,16 @@ event_good w e h r = each_event IsGood w e h (record {
   refreshes = λ x v u m. refresh_good w x v m h;
   picks = λ y s u none e upto. current_good w y (Some s) u.lt u.up (door_pickable w y s e upto h) h;
   refuses = h;
-}) r
+}) (λ x m u _. copied_good w x m u.lt u.up h) r
 
 -- what each event keeps, every run keeps
-pub run_events : (P : World → Type 0) → ((w : World) (e : Event) → IsGood w → refusal w e ≡ None → P w → P (effect w e)) → (w : World) (es : List Event) → IsGood w → IsRun w es → P w → P (last w es)
-run_events P keeps w [] g r h = h
-run_events P keeps w (e ∷ es) g r h = run_events P keeps (effect w e) es (event_good w e g r.0) r.1 (keeps w e g r.0 h)
+pub run_acts : (P : World → Type 0) → ((w : World) (e : Act) → IsGood w → refusal w e ≡ None → P w → P (effect w e)) → (w : World) (es : List Act) → IsGood w → IsRun w es → P w → P (last w es)
+run_acts P keeps w [] g r h = h
+run_acts P keeps w (e ∷ es) g r h = run_acts P keeps (effect w e) es (act_good w e g r.0) r.1 (keeps w e g r.0 h)
 
 -- every state of every run
-pub run_good : (w : World) (es : List Event) → IsGood w → IsRun w es → IsGood (last w es)
-run_good w es h r = run_events IsGood (λ v e g k _. event_good v e g k) w es h r h
+pub run_good : (w : World) (es : List Act) → IsGood w → IsRun w es → IsGood (last w es)
+run_good w es h r = run_acts IsGood (λ v e g k _. act_good v e g k) w es h r h
 
-pub reached_good : (credit : CreditSpec) (names : List (List ℕ)) (es : List Event) → AreOpeningNames names → IsRun (opening credit names) es → IsGood (last (opening credit names) es)
+pub reached_good : (credit : CreditSpec) (names : List (List ℕ)) (es : List Act) → AreOpeningNames names → IsRun (opening credit names) es → IsGood (last (opening credit names) es)
 reached_good credit names es are r = run_good (opening credit names) es (opening_good credit names are) r

@@ -1,5 +1,6 @@
 -- Stops, picks, ends that are taken, and new views keep the whole invariant.
 use Rattle.std.proofs.Common.{None, subst, ◌≡◌, ◌≢◌, ℕ, ◌<◌, ◌≤◌, ◌+◌, Bool, true, false, cond, List, [], ◌∷◌, ◌++◌, length, refl, sym, ap, ◌∙◌, arith, nat_eq, Option, Some}
+use Rattle.queue_mirror.specs.Mirror.{MirrorState}
 use Rattle.std.specs.List.{filter}
 use Rattle.std.proofs.lemmas.List.{length-set, length_push}
 use Rattle.std.proofs.lemmas.List.Elements.{filter_agree}
@@ -11,7 +12,7 @@ use Rattle.group_view.specs.View.{Group}
 use Rattle.ring_rules.specs.Machine.{Phase, Waiting, Up, Stopped, Link, World, Member, no_link, no_member, numbers_at, member_at, link_at, row_at, ring, runs, runs_phase, is_kept, oldest, is_waiting}
 use Rattle.ring_rules.proofs.walks.CountedWalk.{walk, running_from, counted}
 use Rattle.ring_rules.specs.OpenLinks.{number, own_number, first_packet}
-use Rattle.ring_rules.specs.Step.{size, stopped, stop_at, with_member, with_link, with_current, with_view}
+use Rattle.ring_rules.specs.Step.{copied_at, size, stopped, stop_at, with_member, with_link, with_current, with_view}
 use Rattle.ring_rules.proofs.rings.Lists.{at_set}
 use Rattle.group_view.proofs.Truth.{other_true}
 use Rattle.group_view.proofs.Rings.{in_tail}
@@ -28,7 +29,7 @@ use Rattle.ring_rules.specs.declared.numbers.Numbers.{Numbers}
 use Rattle.ring_rules.specs.Rows.{Row}
 use Rattle.ring_rules.proofs.walks.Links.{IsOr, kept}
 use Rattle.ring_rules.proofs.walks.Back.{Closes, closes_walk}
-use Rattle.ring_rules.proofs.walks.Refresh.{current_walk}
+use Rattle.ring_rules.proofs.walks.Refresh.{settled, settled_walk}
 use Rattle.ring_rules.proofs.invariants.Kept.{Inv, AllPackets-map, shaped_packed, shaped_current, shaped_keeps, set_alike, waits_alike}
 
 -- ---- a stop
@@ -77,9 +78,9 @@ stop_keeps w x lt rx h =
 
 -- ---- a pick, or an end that is taken
 
-pub current_keeps : (w : World) (y : ℕ) (c : Option ℕ) → y < size w → (member_at w y).phase ≡ Up → IsPickable w y c → Inv w → Inv (with_member w y (with_current c (member_at w y)))
-current_keeps w y c lt up k h =
-    let m : Member = with_current c (member_at w y) in
+pub settled_keeps : (w : World) (y : ℕ) (c : Option ℕ) (mi : MirrorState) (b : Bool) → y < size w → (member_at w y).phase ≡ Up → IsPickable w y c → Inv w → Inv (with_member w y (settled c mi b (member_at w y)))
+settled_keeps w y c mi b lt up k h =
+    let m : Member = settled c mi b (member_at w y) in
     let w' : World = with_member w y m in
     let rows : (q p : ℕ) → row_at (member_at w' q) p ≡ row_at (member_at w q) p = λ q p. at_set (λ i a. row_at a p ≡ row_at (member_at w i) p) w.members y q m no_member lt refl (λ _. refl) in
     let runs_same : (q : ℕ) → runs w' q ≡ runs w q = λ q. at_set (λ i a. runs_phase a.phase ≡ runs w i) w.members y q m no_member lt refl (λ _. refl) in
@@ -89,7 +90,7 @@ current_keeps w y c lt up k h =
       many = length-set w.members y m;
       packed = shaped_packed w w'.members w.links sh h.packed.packets;
       numbered = record { zero = λ z p. at_set (λ i a. knows w a.version p ≡ false → ((row_at a p).got ≡ 0) × ((row_at a p).forgot ≡ 0)) w.members y z m no_member lt (h.numbered.zero y p) (λ _. h.numbered.zero z p); beyond = λ z p ge. ap (λ r. r.retired) (rows z p) ∙ h.numbered.beyond z p (omega (arith, ge, length-set w.members y m)) };
-      retired = record { none = λ p a b us r e i. ap (λ r. r.retired) (rows b p) ∙ h.retired.none p a b us r (sym (filter_agree (runs w') (runs w) runs_same (rotated p (ring w))) ∙ e) i };
+      retired = record { none = λ p a b2 us r e i. ap (λ r. r.retired) (rows b2 p) ∙ h.retired.none p a b2 us r (sym (filter_agree (runs w') (runs w) runs_same (rotated p (ring w))) ∙ e) i };
       waiting = record {
         first = λ z t e j. let d : z ≢ y = waits z e in h.waiting.first z t (phase z d e) (current z d j);
         mine = λ z t e j. let d : z ≢ y = waits z e in h.waiting.mine z t (phase z d e) (current z d j);
@@ -102,20 +103,37 @@ current_keeps w y c lt up k h =
         kept_yet = λ q s r. at_set (λ i a. runs w i ≡ true → a.current ≡ Some s → is_kept w (link_at w s) a.version ≡ true) w.members y q m no_member lt (λ _. k.kept_yet s) (λ _ r2. h.current.kept_yet q s r2) (sh.runs_less q r);
         opened = λ q s r. at_set (λ i a. runs w i ≡ true → a.current ≡ Some s → (link_at w s).opened ≤ a.version) w.members y q m no_member lt (λ _. k.opened s) (λ _ r2. h.current.opened q s r2) (sh.runs_less q r);
       };
-      walks = λ p some l. never_rises_still (walk w p) (walk w' p) (current_walk w y p c lt up) (h.walks p some l);
+      walks = λ p some l. never_rises_still (walk w p) (walk w' p) (settled_walk w y p c mi b lt up) (h.walks p some l);
     })
     h
   where
-    waits : (z : ℕ) → (member_at (with_member w y (with_current c (member_at w y))) z).phase ≡ Waiting → z ≢ y
+    waits : (z : ℕ) → (member_at (with_member w y (settled c mi b (member_at w y))) z).phase ≡ Waiting → z ≢ y
     waits z e is =
-        let now : (member_at (with_member w y (with_current c (member_at w y))) z).phase ≡ Up = at_set (λ i a. i ≡ y → a.phase ≡ Up) w.members y z (with_current c (member_at w y)) no_member lt (λ _. up) (λ d j. absurd (d j)) is in
+        let now : (member_at (with_member w y (settled c mi b (member_at w y))) z).phase ≡ Up = at_set (λ i a. i ≡ y → a.phase ≡ Up) w.members y z (settled c mi b (member_at w y)) no_member lt (λ _. up) (λ d j. absurd (d j)) is in
         let bad : Up ≡ Waiting = sym now ∙ e in cc
 
-    phase : (z : ℕ) → z ≢ y → (member_at (with_member w y (with_current c (member_at w y))) z).phase ≡ Waiting → (member_at w z).phase ≡ Waiting
-    phase z d e = sym (at_set (λ i a. i ≢ y → a.phase ≡ (member_at w i).phase) w.members y z (with_current c (member_at w y)) no_member lt (λ j. absurd (j refl)) (λ _ _. refl) d) ∙ e
+    phase : (z : ℕ) → z ≢ y → (member_at (with_member w y (settled c mi b (member_at w y))) z).phase ≡ Waiting → (member_at w z).phase ≡ Waiting
+    phase z d e = sym (at_set (λ i a. i ≢ y → a.phase ≡ (member_at w i).phase) w.members y z (settled c mi b (member_at w y)) no_member lt (λ j. absurd (j refl)) (λ _ _. refl) d) ∙ e
 
-    current : (z : ℕ) {t : ℕ} → z ≢ y → (member_at (with_member w y (with_current c (member_at w y))) z).current ≡ Some t → (member_at w z).current ≡ Some t
-    current z d e = sym (at_set (λ i a. i ≢ y → a.current ≡ (member_at w i).current) w.members y z (with_current c (member_at w y)) no_member lt (λ j. absurd (j refl)) (λ _ _. refl) d) ∙ e
+    current : (z : ℕ) {t : ℕ} → z ≢ y → (member_at (with_member w y (settled c mi b (member_at w y))) z).current ≡ Some t → (member_at w z).current ≡ Some t
+    current z d e = sym (at_set (λ i a. i ≢ y → a.current ≡ (member_at w i).current) w.members y z (settled c mi b (member_at w y)) no_member lt (λ j. absurd (j refl)) (λ _ _. refl) d) ∙ e
+
+pub current_keeps : (w : World) (y : ℕ) (c : Option ℕ) → y < size w → (member_at w y).phase ≡ Up → IsPickable w y c → Inv w → Inv (with_member w y (with_current c (member_at w y)))
+current_keeps w y c lt up k h = settled_keeps w y c (member_at w y).mirror (member_at w y).whole lt up k h
+
+-- ---- a copy that is done
+
+-- its own link y may take from
+own_pickable : (w : World) (y : ℕ) → (member_at w y).phase ≡ Up → Inv w → IsPickable w y (member_at w y).current
+own_pickable w y up h = record {
+  lt = λ s e. h.current.lt y s (ap runs_phase up) e;
+  receiver = λ s e. h.current.receiver y s (ap runs_phase up) e;
+  kept_yet = λ s e. h.current.kept_yet y s (ap runs_phase up) e;
+  opened = λ s e. h.current.opened y s (ap runs_phase up) e;
+}
+
+pub copied_keeps : (w : World) (y : ℕ) (m : MirrorState) → y < size w → (member_at w y).phase ≡ Up → Inv w → Inv (copied_at w y m)
+copied_keeps w y m lt up h = settled_keeps w y (member_at w y).current m true lt up (own_pickable w y up h) h
 
 -- ---- a mark or an erasure, before its member refreshes
 

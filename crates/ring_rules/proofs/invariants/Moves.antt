@@ -1,17 +1,19 @@
 -- The single steps of an event, each from a good state to a good one: what they keep, events keep.
 use Rattle.std.proofs.Common.{◌≡◌, ◌≢◌, ℕ, ◌+◌, ◌<◌, true, List, length, Option, Some, None, refl, sym, ap, subst, arith}
+use Rattle.queue_mirror.specs.Mirror.{MirrorState}
 use Rattle.std.proofs.lemmas.List.{length_push}
 use Rattle.queue_core.specs.declared.message.Message.{Message}
 use Rattle.group_view.specs.View.{Group}
 use Rattle.group_view.specs.Change.{marked}
 use Rattle.ring_rules.specs.View.{is_live}
 use Rattle.ring_rules.specs.Machine.{Up, Stopped, Moved, Halted, Link, World, member_at, link_at, view_in, newest, right, runs, runs_phase}
-use Rattle.ring_rules.specs.Step.{size, publish_at, put_on, gain_on, take_from, begin_from, current_is, leave_link, finished, ended, stop_at, end_out, with_link, with_view, look_at, open_to, opened_link, come_to}
-use Rattle.ring_rules.specs.Event.{Event, IsRun, refusal, effect, last, refreshed, erased_view, synced_view}
+use Rattle.ring_rules.specs.Step.{copied_at, size, publish_at, put_on, gain_on, take_from, begin_from, current_is, leave_link, finished, ended, stop_at, end_out, with_link, with_view, look_at, open_to, opened_link, come_to}
+use Rattle.ring_rules.specs.Event.{refreshed, erased_view, synced_view}
+use Rattle.ring_rules.specs.Act.{Act, refusal, effect, IsRun, last}
 use Rattle.ring_rules.proofs.events.WhatRefuses.{MayTake, MayBegin, IsPickable, MayLook, MayErase, MaySync, IsSameWay}
 use Rattle.ring_rules.proofs.invariants.KeptAdmit.{CanJoin, joined_state}
-use Rattle.ring_rules.proofs.invariants.Happens.{IsGood, run_events, current_good, nothing_pickable, mark_good, erase_good, sync_there, sync_good, join_good, can_join, door_pickable, stopped_good, open_good, ends_same_way, newer_look, refresh_ordered, admit_composed, joined_links}
-use Rattle.ring_rules.proofs.events.Cases.{each_event}
+use Rattle.ring_rules.proofs.invariants.Happens.{IsGood, run_acts, current_good, nothing_pickable, mark_good, erase_good, sync_there, sync_good, join_good, can_join, door_pickable, stopped_good, open_good, ends_same_way, newer_look, refresh_ordered, admit_composed, joined_links}
+use Rattle.ring_rules.proofs.events.Cases.{each_act}
 use Rattle.ring_rules.proofs.events.Composed.{end_composed}
 
 -- a step; where a member joins, G is known of the state before
@@ -21,6 +23,7 @@ pub data Move (G : World → Type 0) (w w' : World) : Type 0 where
   take_move : (y s : ℕ) → MayTake w y s → w' ≡ take_from w y s → Move G w w'
   begin_move : (y s : ℕ) → MayBegin w y s → w' ≡ begin_from w y s → Move G w w'
   current_move : (y : ℕ) (c : Option ℕ) → y < size w → (member_at w y).phase ≡ Up → IsPickable w y c → w' ≡ current_is w y c → Move G w w'
+  copy_move : (x : ℕ) (m : MirrorState) → x < size w → (member_at w x).phase ≡ Up → w' ≡ copied_at w x m → Move G w w'
   stop_move : (x : ℕ) → x < size w → runs w x ≡ true → w' ≡ stop_at w x → Move G w w'
   way_move : (s : ℕ) (l : Link) → s < length w.links → IsSameWay (link_at w s) l → w' ≡ with_link w s l → Move G w w'
   look_move : (x v : ℕ) → MayLook w x v → w' ≡ look_at w x v → Move G w w'
@@ -65,8 +68,8 @@ module _ (G P : World → Type 0) (keeps : (w w' : World) → IsGood w → Move 
       joins = keeps w (joined_state w m name) g (join_move m name j gw refl) h
 
   -- any event
-  pub event_moves : (w : World) (e : Event) → IsGood w → G w → refusal w e ≡ None → P w → P (effect w e)
-  event_moves w e g gw r h = each_event P w e g (record {
+  pub act_moves : (w : World) (e : Act) → IsGood w → G w → refusal w e ≡ None → P w → P (effect w e)
+  act_moves w e g gw r h = each_act P w e g (record {
     casts = λ x m u _. keeps w (publish_at w x m) g (cast_move x m u.lt u.up refl) h;
     puts = λ x o u out k. keeps w (put_on w x o) g (put_move x o u.up out refl) h;
     takes = λ y s u m. keeps w (take_from w y s) g (take_move y s m refl) h;
@@ -83,8 +86,8 @@ module _ (G P : World → Type 0) (keeps : (w w' : World) → IsGood w → Move 
     refreshes = λ x v u m. refresh_moves w x v m g h;
     picks = λ y s u none door upto. keeps w (current_is w y (Some s)) g (current_move y (Some s) u.lt u.up (door_pickable w y s door upto g) refl) h;
     refuses = h;
-  }) r
+  }) (λ x m u _. keeps w (copied_at w x m) g (copy_move x m u.lt u.up refl) h) r
 
 -- what each step keeps, every run keeps
-pub run_moves : (P : World → Type 0) → ((w w' : World) → IsGood w → Move IsGood w w' → P w → P w') → (w : World) (es : List Event) → IsGood w → IsRun w es → P w → P (last w es)
-run_moves P keeps = run_events P (λ w e g r h. event_moves IsGood P keeps w e g g r h)
+pub run_moves : (P : World → Type 0) → ((w w' : World) → IsGood w → Move IsGood w w' → P w → P w') → (w : World) (es : List Act) → IsGood w → IsRun w es → P w → P (last w es)
+run_moves P keeps = run_acts P (λ w e g r h. act_moves IsGood P keeps w e g g r h)

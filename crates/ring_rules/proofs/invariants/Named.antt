@@ -11,17 +11,18 @@ use Rattle.group_view.specs.declared.entry.Mark.TheVariants.{Live, Dead, Erased}
 use Rattle.group_view.proofs.Named.{name-remarked, name-admitted, name-new, name_taken}
 use Rattle.ring_rules.specs.View.{right_of}
 use Rattle.ring_rules.specs.Machine.{Member, Link, Ending, Moved, Halted, World, no_member, member_at, link_at, view_in, newest, runs_phase, oldest}
-use Rattle.ring_rules.specs.Step.{size, published, taker, begun, with_current, ended, stop_at, stopped, end_out, with_member, with_link, with_view, look_at, moved_to, open_to, joiner, admitted_view, come_to, opening}
+use Rattle.ring_rules.specs.Step.{copied, size, published, taker, begun, with_current, ended, stop_at, stopped, end_out, with_member, with_link, with_view, look_at, moved_to, open_to, joiner, admitted_view, come_to, opening}
 use Rattle.group_view.proofs.Syncing.{name_registered}
-use Rattle.ring_rules.specs.Event.{Event, id_of, send_to, refreshed, erased_view, synced_view, refusal, effect, IsRun, last}
+use Rattle.ring_rules.specs.Event.{id_of, send_to, refreshed, erased_view, synced_view}
+use Rattle.ring_rules.specs.Act.{Act, refusal, effect, IsRun, last}
 use Rattle.ring_rules.proofs.rings.Lists.{at_set}
 use Rattle.ring_rules.proofs.events.Names.{same_bytes, own_bytes, found_at}
 use Rattle.ring_rules.proofs.rings.Rounds.{nat_eq-is, nat_eq-same}
 use Rattle.ring_rules.proofs.events.Refusals.{none_of}
 use Rattle.ring_rules.proofs.events.First.{first_at, first_size}
 use Rattle.ring_rules.proofs.invariants.KeptAdmit.{CanJoin}
-use Rattle.ring_rules.proofs.invariants.Happens.{IsGood, can_join, run_events, opening_good}
-use Rattle.ring_rules.proofs.events.Cases.{each_event}
+use Rattle.ring_rules.proofs.invariants.Happens.{IsGood, can_join, run_acts, opening_good}
+use Rattle.ring_rules.proofs.events.Cases.{each_act}
 use Rattle.ring_rules.proofs.walks.Views.{newest_view}
 
 -- each entry of the newest view has its member's name, and no two members have the same
@@ -144,8 +145,8 @@ come_named w m name j g free h = record {
 
 -- ---- every state of every run
 
-pub event_named : (w : World) (e : Event) → IsGood w → refusal w e ≡ None → AreNamed w → AreNamed (effect w e)
-event_named w e g r h = each_event AreNamed w e g (record {
+pub act_named : (w : World) (e : Act) → IsGood w → refusal w e ≡ None → AreNamed w → AreNamed (effect w e)
+act_named w e g r h = each_act AreNamed w e g (record {
   casts = λ x m u _. same_named w _ (set_names w x (published x m (member_at w x)) u.lt refl) h;
   puts = λ x o u out k. record { same = h.same; different = h.different };
   takes = λ y s u m. same_links _ _ (same_named w _ (set_names w y (taker w y s) u.lt refl) h);
@@ -162,7 +163,7 @@ event_named w e g r h = each_event AreNamed w e g (record {
   refreshes = λ x v u m. same_named w _ (refreshed_names w x v u.lt) h;
   picks = λ y s u none door upto. same_named w _ (set_names w y (with_current (Some s) (member_at w y)) u.lt refl) h;
   refuses = h;
-}) r
+}) (λ x m u _. same_named w _ (set_names w x (copied m (member_at w x)) u.lt refl) h) r
   where
     same_links : (v : World) (ls : List Link) → AreNamed v → AreNamed (record v { links = ls })
     same_links v ls k = record { same = k.same; different = k.different }
@@ -209,8 +210,8 @@ opening_named credit names are = record {
     apart (suc i) zero sx lx sy ly e = absurd (omega arith)
     apart (suc i) (suc k) sx lx sy ly e = ap suc (are.different i k (omega arith) (omega arith) (sym (name_of i lx) ∙ e ∙ name_of k ly))
 
-pub reached_named : (credit : CreditSpec) (names : List (List ℕ)) (es : List Event) → AreOpeningNames names → IsRun (opening credit names) es → AreNamed (last (opening credit names) es)
-reached_named credit names es are r = run_events AreNamed event_named (opening credit names) es (opening_good credit names are) r (opening_named credit names are)
+pub reached_named : (credit : CreditSpec) (names : List (List ℕ)) (es : List Act) → AreOpeningNames names → IsRun (opening credit names) es → AreNamed (last (opening credit names) es)
+reached_named credit names es are r = run_acts AreNamed act_named (opening credit names) es (opening_good credit names are) r (opening_named credit names are)
 
 -- so each member is the one that its name finds
 pub named_found : (w : World) (x : ℕ) → AreNamed w → 1 ≤ x → x < size w → id_of w (member_at w x).name ≡ Some x

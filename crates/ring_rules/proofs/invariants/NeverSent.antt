@@ -15,16 +15,18 @@ use Rattle.group_view.proofs.Joining.{MayAdmit, entry_new, below_at}
 use Rattle.group_view.proofs.Passing.{live_in}
 use Rattle.ring_rules.specs.View.{right_of}
 use Rattle.ring_rules.specs.Machine.{Member, Halted, Link, World, no_link, no_member, member_at, link_at, view_in, newest, runs, runs_phase, oldest}
-use Rattle.ring_rules.specs.Step.{size, published, pushed, popped, next_packet, taker, begun, with_current, current_is, finished, ended, stopped, stop_at, with_member, with_link, with_view, look_at, moved_to, joiner, admitted_view, come_to, opening, opening_member}
-use Rattle.ring_rules.specs.Event.{Event, refreshed, refusal, effect, IsRun, last, erased_view, synced_view}
+use Rattle.ring_rules.specs.Step.{copied, size, published, pushed, popped, next_packet, taker, begun, with_current, current_is, finished, ended, stopped, stop_at, with_member, with_link, with_view, look_at, moved_to, joiner, admitted_view, come_to, opening, opening_member}
+use Rattle.ring_rules.specs.Event.{refreshed, erased_view, synced_view}
+use Rattle.ring_rules.specs.Act.{Act, refusal, effect, IsRun, last}
 use Rattle.ring_rules.specs.LinksStand.{HasNeverSent}
-use Rattle.ring_rules.proofs.events.Cases.{each_event}
+use Rattle.ring_rules.proofs.events.Cases.{each_act}
 use Rattle.ring_rules.proofs.events.Composed.{end_composed}
 use Rattle.ring_rules.proofs.events.First.{first_each}
 use Rattle.ring_rules.proofs.events.Leaves.{member_leaves, link_leaves, come_each}
 use Rattle.ring_rules.proofs.walks.Views.{view_old}
 use Rattle.ring_rules.proofs.walks.OpenWalk.{sender_stands}
-use Rattle.ring_rules.proofs.invariants.Happens.{IsGood, opening_good, run_events, ring_below, can_join}
+use Rattle.ring_rules.proofs.invariants.FromLeft.{version_some}
+use Rattle.ring_rules.proofs.invariants.Happens.{IsGood, opening_good, run_acts, ring_below, can_join}
 use Rattle.ring_rules.proofs.invariants.KeptAdmit.{CanJoin}
 use Rattle.ring_rules.proofs.work.Refreshed.{goes_to, sends_right, sending_member, opened_world, old_links, link_old, link_new, links_more, refresh_cases}
 
@@ -32,7 +34,7 @@ use Rattle.ring_rules.proofs.work.Refreshed.{goes_to, sends_right, sending_membe
 
 -- the member a of id q, where views and links are these
 record NeverIn (views : List Group) (links : List Link) (q : ℕ) (a : Member) : Type 0 where
-  pub joined : a.whole ≡ false
+  pub joined : 1 < a.version
   pub version : (entry_in (get_or views a.version no_group).entries q).joined ≡ a.version
   pub none : (s : ℕ) → s < length links → (get_or links s no_link).sender ≢ q
 
@@ -55,11 +57,11 @@ set_so : (w : World) (x : ℕ) (y : Member) → IsSo w x y → AreSo w → AreSo
 set_so w x y here h q = member_leaves (λ i _ b. IsSo w i (member_at w i) → IsSo w i b) w x y (λ _. here) (λ _ k. k) q (h q)
 
 -- with the view and the out link that it had
-same_so : (w : World) (x : ℕ) (y : Member) → (runs_phase y.phase ≡ true → runs w x ≡ true) → y.out ≡ (member_at w x).out → y.version ≡ (member_at w x).version → ((member_at w x).whole ≡ false → y.whole ≡ false) → AreSo w → AreSo (with_member w x y)
-same_so w x y less out version whole h = set_so w x y
+same_so : (w : World) (x : ℕ) (y : Member) → (runs_phase y.phase ≡ true → runs w x ≡ true) → y.out ≡ (member_at w x).out → y.version ≡ (member_at w x).version → AreSo w → AreSo (with_member w x y)
+same_so w x y less out version h = set_so w x y
     (λ r e. let n : NeverIn w.views w.links x (member_at w x) = h x (less r) (sym out ∙ e) in
     record {
-      joined = whole n.joined;
+      joined = subst (λ v. 1 < v) (sym version) n.joined;
       version = ap (λ v. (entry_in (get_or w.views v no_group).entries x).joined) version ∙ n.version ∙ sym version;
       none = n.none;
     }) h
@@ -162,7 +164,7 @@ newest_numbered w g =
 come_so : (w : World) (m : ℕ) (name : List ℕ) → CanJoin w m → IsGood w → AreSo w → AreSo (come_to w m name)
 come_so w m name j g h q = come_each w m name q (IsSo (come_to w m name))
     (λ r e. record {
-      joined = refl;
+      joined = (let late : 1 ≤ (member_at w m).version = version_some w m g (ap runs_phase j.up) in let held : (member_at w m).version ≤ newest w = g.inv.is_ring.held m in omega (arith, late, held));
       version = ap (λ (k : Group). (entry_in k.entries (size w)).joined) (get_or_push w.views (admitted_view w m name) no_group (length w.views) refl)
           ∙ ap (λ i. (entry_in (admitted_view w m name).entries i).joined) (sym g.next_id)
           ∙ admitted_joined (view_in w (newest w)) m name j.may
@@ -176,15 +178,15 @@ come_so w m name j g h q = come_each w m name q (IsSo (come_to w m name))
 -- ---- events
 
 -- one event more
-event_so : (w : World) (e : Event) → IsGood w → refusal w e ≡ None → AreSo w → AreSo (effect w e)
-event_so w e g r h = each_event AreSo w e g (record {
-  casts = λ x m u _. same_so w x (published x m (member_at w x)) (λ r. r) refl refl (λ f. f) h;
+act_so : (w : World) (e : Act) → IsGood w → refusal w e ≡ None → AreSo w → AreSo (effect w e)
+act_so w e g r h = each_act AreSo w e g (record {
+  casts = λ x m u _. same_so w x (published x m (member_at w x)) (λ r. r) refl refl h;
   puts = λ x o u out k. link_so w o (pushed (link_at w o) (next_packet (member_at w x) (link_at w o).sending)) refl h;
-  takes = λ y s u m. link_so (with_member w y (taker w y s)) s (popped (link_at w s)) refl (same_so w y (taker w y s) (λ r. r) refl refl (λ f. f) h);
+  takes = λ y s u m. link_so (with_member w y (taker w y s)) s (popped (link_at w s)) refl (same_so w y (taker w y s) (λ r. r) refl refl h);
   begins = λ y s u m.
       let b : Member = begun (size w) (member_at w y) (oldest (link_at w s)) in
-      link_so (with_member w y b) s (popped (link_at w s)) refl (same_so w y b (λ _. u.runs_on) refl refl (λ _. refl) h);
-  leaves = λ y s u current k. link_so (current_is w y None) s (finished (link_at w s)) refl (same_so w y (with_current None (member_at w y)) (λ r. r) refl refl (λ f. f) h);
+      link_so (with_member w y b) s (popped (link_at w s)) refl (same_so w y b (λ _. u.runs_on) refl refl h);
+  leaves = λ y s u current k. link_so (current_is w y None) s (finished (link_at w s)) refl (same_so w y (with_current None (member_at w y)) (λ r. r) refl refl h);
   gains = λ x o u out k. link_so w o _ refl h;
   stops = λ x u. end_composed AreSo Halted (stop_at w x) (member_at w x).out
       (λ o _ k. link_so (stop_at w x) o (ended Halted (link_at w o)) refl k)
@@ -194,17 +196,17 @@ event_so w e g r h = each_event AreSo w e g (record {
   syncs = λ x u m. refresh_so (with_view w (synced_view w x)) x (newest w + 1) u.lt (view_so w (synced_view w x) g h);
   admits = λ x name u k. refresh_so (come_to w x name) x (newest w + 1) (omega (arith, u.lt, length_push w.members (joiner w name))) (come_so w x name (can_join w x name u.lt u.up k g) g h);
   refreshes = λ x v u m. refresh_so w x v u.lt h;
-  picks = λ y s u none door upto. same_so w y (with_current (Some s) (member_at w y)) (λ r. r) refl refl (λ f. f) h;
+  picks = λ y s u none door upto. same_so w y (with_current (Some s) (member_at w y)) (λ r. r) refl refl h;
   refuses = h;
-}) r
+}) (λ x m u _. same_so w x (copied m (member_at w x)) (λ r. r) refl refl h) r
 
 -- each member of the opening sends somewhere
 opening_so : (credit : CreditSpec) (names : List (List ℕ)) → AreSo (opening credit names)
 opening_so credit names q = first_each credit names q (IsSo (opening credit names) q) (λ _ _. sends_so (opening credit names) q (q - 1) (opening_member names q) refl) (λ r. absurd (false≢true r))
 
 -- in every state of every run
-pub reached_never_sent : (credit : CreditSpec) (names : List (List ℕ)) (es : List Event) → AreOpeningNames names → IsRun (opening credit names) es
+pub reached_never_sent : (credit : CreditSpec) (names : List (List ℕ)) (es : List Act) → AreOpeningNames names → IsRun (opening credit names) es
     → (x : ℕ) → runs (last (opening credit names) es) x ≡ true → (member_at (last (opening credit names) es) x).out ≡ None → HasNeverSent (last (opening credit names) es) x
 reached_never_sent credit names es are r x rx e =
-    let n = run_events AreSo event_so (opening credit names) es (opening_good credit names are) r (opening_so credit names) x rx e in
+    let n = run_acts AreSo act_so (opening credit names) es (opening_good credit names are) r (opening_so credit names) x rx e in
     record { joined = n.joined; version = n.version; none = n.none }

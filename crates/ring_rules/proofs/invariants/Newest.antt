@@ -12,7 +12,7 @@ use Rattle.ring_rules.proofs.events.WhatRefuses.{MayErase, MaySync}
 use Rattle.ring_rules.proofs.walks.Views.{view_new}
 use Rattle.ring_rules.proofs.invariants.FromLeft.{IsGood}
 use Rattle.ring_rules.proofs.invariants.KeptAdmit.{CanJoin, join_view, many}
-use Rattle.ring_rules.proofs.invariants.Moves.{Move, cast_move, put_move, take_move, begin_move, current_move, stop_move, way_move, look_move, open_move, mark_move, erase_move, sync_move, join_move}
+use Rattle.ring_rules.proofs.invariants.Moves.{copy_move, Move, cast_move, put_move, take_move, begin_move, current_move, stop_move, way_move, look_move, open_move, mark_move, erase_move, sync_move, join_move}
 
 -- it stays, or a live one dies in it, a dead one is erased, one is registered, or one is admitted, who is then a member
 pub data NewestAfter (w w' : World) : Type 0 where
@@ -40,6 +40,7 @@ newest_after G w w' g k = by_move k
     by_move (take_move y s m e) = same _ (length-set w.members y _) refl e
     by_move (begin_move y s m e) = same _ (length-set w.members y _) refl e
     by_move (current_move y c lt up q e) = same _ (length-set w.members y _) refl e
+    by_move (copy_move x m lt up e) = same _ (length-set w.members x _) refl e
     by_move (stop_move x lt rx e) = same _ (length-set w.members x _) refl e
     by_move (way_move s l lt q e) = same _ refl refl e
     by_move (look_move x v m e) = same _ (length-set w.members x _) refl e

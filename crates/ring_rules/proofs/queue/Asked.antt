@@ -21,7 +21,7 @@ use Rattle.queue_laws.specs.Moves.{IsLet, may}
 use Rattle.ring_rules.specs.Refusal.{refuse_if, or_else}
 use Rattle.ring_rules.specs.Machine.{World, member_at, view_in}
 use Rattle.ring_rules.specs.declared.kind.Asking.TheVariants as asking
-use Rattle.ring_rules.specs.Event.{QueueSaying, Publishes, Does, Saying, Own, OfQueue, start_refusal, asked_op, op_as, queue_message, message_of, MayPublish}
+use Rattle.ring_rules.specs.Event.{Marks, QueueSaying, Publishes, Does, Saying, Own, OfQueue, start_refusal, asked_op, op_as, queue_message, message_of, MayPublish}
 use Rattle.ring_rules.specs.QueuePart.{part_of}
 use Rattle.ring_rules.proofs.invariants.Happens.{IsGood}
 
@@ -103,6 +103,10 @@ answered m g x started (Does asking.Start) o h =
     let k = not_refused (start_refusal g x started) (Ok (op.Start (length m.queue.items))) o h in
     let is : op.Start (length m.queue.items) ≡ o = cc in
     record { leads = start_none g.master x _ k.0; may = ap (λ a. may a m) (sym is) ∙ nat_eq-same (length m.queue.items) }
+answered m g x started (Marks target) o h =
+    let k = not_refused (lead_refusal g x started) (Ok (op.SyncMark target)) o h in
+    let is : op.SyncMark target ≡ o = cc in
+    record { leads = lead_none g.master x _ k.0; may = ap (λ a. may a m) (sym is) }
 
 -- an operation that a member may publish is what is asked of its queue
 pub operation_asked : (w : World) (x : ℕ) (o : Op) (s : Saying) → message_of w x s ≡ Ok (Queue o) → (q : QueueSaying) × (op_as w x q ≡ Ok o)

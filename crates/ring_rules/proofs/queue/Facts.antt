@@ -6,7 +6,7 @@ use Rattle.group_view.specs.Ring.{is_in}
 use Rattle.group_view.specs.View.{ids}
 use Rattle.group_view.specs.Change.{AreOpeningNames}
 use Rattle.group_view.proofs.Joining.{below_at}
-use Rattle.ring_rules.specs.declared.event.Event.{Event}
+use Rattle.ring_rules.specs.Act.{Act, IsRun, last}
 use Rattle.ring_rules.specs.declared.phase.Phase as ring
 use Rattle.ring_rules.specs.declared.phase.Phase.TheVariants as machine
 use Rattle.ring_rules.specs.Machine.{World, no_member, member_at, link_at, view_in, newest, runs, runs_phase, numbers_at}
@@ -14,7 +14,6 @@ use Rattle.ring_rules.specs.OpenLinks.{first_packet, own_number}
 use Rattle.ring_rules.specs.Step.{size, log_of, opening}
 use Rattle.ring_rules.specs.Lawful.{row_of, has_erased}
 use Rattle.ring_rules.specs.Laws.{IsLawful, GoesOn}
-use Rattle.ring_rules.specs.Event.{IsRun, last}
 use Rattle.ring_rules.proofs.rings.Lists.{get_or_beyond}
 use Rattle.ring_rules.proofs.walks.Put.{number_up}
 use Rattle.ring_rules.proofs.invariants.Happens.{IsGood, opening_good, reached_good, newest_is}
@@ -56,7 +55,7 @@ up_is machine.Stopped h = absurd (false≢true h)
 
 -- ---- by the laws of runs
 
-pub reached_facts : (credit : CreditSpec) (names : List (List ℕ)) (es : List Event) → AreOpeningNames names → IsRun (opening credit names) es → Facts (last (opening credit names) es)
+pub reached_facts : (credit : CreditSpec) (names : List (List ℕ)) (es : List Act) → AreOpeningNames names → IsRun (opening credit names) es → Facts (last (opening credit names) es)
 reached_facts credit names es are r = record {
   good = reached_good credit names es are r;
   initial = credit.initial;
@@ -65,7 +64,7 @@ reached_facts credit names es are r = record {
   order = (run_heard (opening credit names) es (opening_good credit names are) gapless r (opening_heard credit names)).order;
 }
   where
-    gapless : (later : List Event) → IsRun (opening credit names) later → HasNoGap (last (opening credit names) later)
+    gapless : (later : List Act) → IsRun (opening credit names) later → HasNoGap (last (opening credit names) later)
     gapless later k y s m p some within own = no_gap (last (opening credit names) later) y s p (reached_lines credit names later are k) m.up m.current some within own
 
 -- ---- ids

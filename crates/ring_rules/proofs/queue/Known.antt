@@ -1,5 +1,6 @@
 -- Where no member has anything to do, the queue rests too: everybody knows how many messages its mirror lacks.
 use Rattle.std.proofs.Common.{◌≡◌, ◌≢◌, ℕ, ◌+◌, ◌-◌, ◌<◌, ◌≤◌, Bool, true, false, cond, nat_eq, nat_lt, not, List, [], ◌∷◌, ◌++◌, length, take, drop, refl, sym, ap, subst, ◌∙◌, inl, inr, arith, Option, Some, None, option_map, if◌then◌else◌, append_assoc, length-append}
+use Rattle.ring_rules.specs.QueueLaws.{CopiesAreRight}
 use Rattle.std.specs.Prelude.{◌&&◌, ◌||◌}
 use Rattle.std.specs.List.{list_any, count_by}
 use Rattle.std.proofs.lemmas.Bool.{false≢true}
@@ -26,10 +27,9 @@ use Rattle.group_view.specs.Ring.{is_in}
 use Rattle.group_view.specs.View.{Group, ids, entry_in, is_live_mark}
 use Rattle.group_view.specs.Change.{AreOpeningNames}
 use Rattle.group_view.proofs.Rings.{nat_eq-is, sym_test}
-use Rattle.ring_rules.specs.declared.event.Event.{Event}
+use Rattle.ring_rules.specs.Act.{Act, IsRun, last}
 use Rattle.ring_rules.specs.Machine.{World, member_at, view_in, newest, ring, runs}
 use Rattle.ring_rules.specs.Step.{log_of, opening}
-use Rattle.ring_rules.specs.Event.{IsRun, last}
 use Rattle.ring_rules.specs.Lawful.{row_of}
 use Rattle.ring_rules.specs.Quiet.{IsAtRest, IsResting, RingRests, QueueRests, IsQuiet}
 use Rattle.ring_rules.specs.Idle.{OwesNothing, IsIdle}
@@ -211,7 +211,7 @@ owes_no_start true false n e h = refl
 owes_no_start true true n e h = absurd (omega (arith, h))
 owes_no_start false late n e h = absurd (false≢true e)
 
-module _ (credit : CreditSpec) (names : List (List ℕ)) (events : List Event) (are : AreOpeningNames names) (few : length events < greatest) (run : IsRun (opening credit names) events) (idle : IsIdle (last (opening credit names) events)) where
+module _ (credit : CreditSpec) (names : List (List ℕ)) (events : List Act) (are : AreOpeningNames names) (few : length events < greatest) (run : IsRun (opening credit names) events) (right : CopiesAreRight (opening credit names) events) (idle : IsIdle (last (opening credit names) events)) where
   abbrev w : World
   w = last (opening credit names) events
 
@@ -240,7 +240,7 @@ module _ (credit : CreditSpec) (names : List (List ℕ)) (events : List Event) (
     registered = λ y ry full. enrolled rest y ry full;
     started = λ m rm led. has_started rest m rm led;
     known = λ m n rm led rn.
-        knows (0 + length events) w (reached_facts credit names events are run) (run_is_known credit names events are few run) (run_tells credit names are events run) (reached_nobody credit names events are run) rest m n (owes_nothing rest m rm).owes rm led rn;
+        knows (0 + length events) w (reached_facts credit names events are run) (run_is_known credit names events are few run right) (run_tells credit names are events run) (reached_nobody credit names events are run) rest m n (owes_nothing rest m rm).owes rm led rn;
   }
 
   -- so where nobody has anything to do, the queue rests

@@ -16,11 +16,12 @@ use Rattle.ring_rules.specs.declared.phase.Phase.TheVariants as machine
 use Rattle.ring_rules.specs.Rows.{Row}
 use Rattle.ring_rules.specs.Machine.{World, member_at, view_in, runs_phase}
 use Rattle.ring_rules.specs.Step.{opening, put_on, gain_on, leave_link, current_is}
-use Rattle.ring_rules.specs.Event.{Event, refusal, effect, refreshed, IsRun, last}
+use Rattle.ring_rules.specs.Event.{refreshed}
+use Rattle.ring_rules.specs.Act.{Act, refusal, effect, IsRun, last}
 use Rattle.ring_rules.specs.Laws.{GoesOn}
 use Rattle.ring_rules.specs.QueuePart.{phase_of, sight_of, based, sent_of, part_of}
-use Rattle.ring_rules.specs.QueueLaws.{QueueIsRight}
-use Rattle.ring_rules.proofs.events.Cases.{each_event}
+use Rattle.ring_rules.specs.QueueLaws.{IsCopyOf, CopyIsRight, CopiesAreRight, QueueIsRight}
+use Rattle.ring_rules.proofs.events.Cases.{each_act_of}
 use Rattle.ring_rules.proofs.events.First.{first_each, first_size, first_row, first_log, first_none_waits}
 use Rattle.ring_rules.proofs.invariants.Happens.{can_join}
 use Rattle.ring_rules.proofs.runs.AllRuns.{every_run_goes_on}
@@ -28,6 +29,7 @@ use Rattle.ring_rules.proofs.queue.Likes.{quiet_same, put_quiet, gain_quiet, cur
 use Rattle.ring_rules.proofs.runs.InOrder.{last_append, run_append}
 use Rattle.ring_rules.proofs.queue.Facts.{Facts, HasMasters, reached_facts, gives, keeps}
 use Rattle.ring_rules.proofs.queue.Steps.{Result, quiet, casts, takes, first_takes, stops}
+use Rattle.ring_rules.proofs.queue.CopySteps.{finishes}
 use Rattle.ring_rules.proofs.queue.ViewSteps.{marks, erases, syncs, admits}
 
 -- what is known of a state after n events
@@ -38,8 +40,8 @@ pub record IsKnown (n : ℕ) (w : World) : Type 0 where
   pub masters : HasMasters w
 
 -- each event is a move
-event_result : (w : World) (e : Event) (n : ℕ) → refusal w e ≡ None → Facts w → IsKnown n w → GoesOn w (effect w e) → Result w (effect w e)
-event_result w e n r f k = each_event (λ w'. GoesOn w w' → Result w w') w e f.good (record {
+act_result : (w : World) (e : Act) (n : ℕ) → refusal w e ≡ None → CopyIsRight w e → Facts w → IsKnown n w → GoesOn w (effect w e) → Result w (effect w e)
+act_result w e n r right f k = each_act_of (IsCopyOf w) (λ w'. GoesOn w w' → Result w w') w e f.good (record {
   casts = λ x m u may on. casts w x m u.some u.lt u.up f may on k.gives k.holds.terms k.masters;
   puts = λ x o u out c _. quiet w (put_on w x o) (put_quiet w x o f.good (f.good.inv.linked.out_lt x o (ap runs_phase u.up) out)) k.masters;
   takes = λ y s u m on. takes w y s m f on k.masters;
@@ -54,19 +56,19 @@ event_result w e n r f k = each_event (λ w'. GoesOn w w' → Result w w') w e f
   refreshes = λ x v u m _. quiet w (refreshed w x v) (refreshed_quiet w x v (record { lt = u.lt; up = u.up; there = λ q s e c. f.good.inv.current.lt q s (ap runs_phase e) c })) k.masters;
   picks = λ y s u none door upto _. quiet w (current_is w y (Some s)) (current_quiet w y (Some s) u.lt u.up) k.masters;
   refuses = λ _. quiet w w (quiet_same w) k.masters;
-}) r
+}) (λ x m u none c _. finishes w x m u.lt u.up none c k.masters) right r
 
 -- ---- runs
 
 module _ (credit : CreditSpec) (names : List (List ℕ)) (are : AreOpeningNames names) where
-  step : (done : List Event) (w : World) (e : Event) (n : ℕ) → n < greatest - 1 → IsRun (opening credit names) done → w ≡ last (opening credit names) done → refusal w e ≡ None → IsKnown n w → IsKnown (n + 1) (effect w e)
-  step done w e n few run is r k =
+  step : (done : List Act) (w : World) (e : Act) (n : ℕ) → n < greatest - 1 → IsRun (opening credit names) done → w ≡ last (opening credit names) done → refusal w e ≡ None → CopyIsRight w e → IsKnown n w → IsKnown (n + 1) (effect w e)
+  step done w e n few run is r right k =
       let f : Facts w = subst Facts (sym is) (reached_facts credit names done are run) in
       let more : IsRun (opening credit names) (done ++ e ∷ []) = run_append (opening credit names) done (e ∷ []) run (subst (λ u. refusal u e ≡ None) is r, tt) in
       let now : effect w e ≡ last (opening credit names) (done ++ e ∷ []) = ap (λ u. effect u e) is ∙ sym (last_append (opening credit names) done (e ∷ [])) in
       let f' : Facts (effect w e) = subst Facts (sym now) (reached_facts credit names (done ++ e ∷ []) are more) in
       let on : GoesOn w (effect w e) = subst (λ u. GoesOn u (effect u e)) (sym is) (every_run_goes_on credit names done (e ∷ []) are run (subst (λ u. refusal u e ≡ None) is r, tt)) in
-      let o : Result w (effect w e) = event_result w e n r f k on in
+      let o : Result w (effect w e) = act_result w e n r right f k on in
       let g' : RingGives (part_of (effect w e)) = gives (effect w e) f' o.masters in
       record {
         gives = g';
@@ -75,15 +77,15 @@ module _ (credit : CreditSpec) (names : List (List ℕ)) (are : AreOpeningNames 
         masters = o.masters;
       }
 
-  run_known : (done : List Event) (w : World) (es : List Event) (n : ℕ) → n + length es < greatest → IsRun (opening credit names) done → w ≡ last (opening credit names) done → IsRun w es → IsKnown n w
+  run_known : (done : List Act) (w : World) (es : List Act) (n : ℕ) → n + length es < greatest → IsRun (opening credit names) done → w ≡ last (opening credit names) done → IsRun w es → CopiesAreRight w es → IsKnown n w
       → IsKnown (n + length es) (last w es)
-  run_known done w [] n few run is q k = subst (λ m. IsKnown m w) (let e : n ≡ n + 0 = omega arith in e) k
-  run_known done w (e ∷ es) n few run is q k =
+  run_known done w [] n few run is q right k = subst (λ m. IsKnown m w) (let e : n ≡ n + 0 = omega arith in e) k
+  run_known done w (e ∷ es) n few run is q right k =
       subst (λ m. IsKnown m (last (effect w e) es)) (let same : n + 1 + length es ≡ n + length (e ∷ es) = omega arith in same)
       (run_known (done ++ e ∷ []) (effect w e) es (n + 1) (omega arith)
       (run_append (opening credit names) done (e ∷ []) run (subst (λ u. refusal u e ≡ None) is q.0, tt))
       (ap (λ u. effect u e) is ∙ sym (last_append (opening credit names) done (e ∷ [])))
-      q.1 (step done w e n (omega arith) run is q.0 k))
+      q.1 right.1 (step done w e n (omega arith) run is q.0 right.0 k))
 
   -- ---- the opening
 
@@ -141,13 +143,13 @@ module _ (credit : CreditSpec) (names : List (List ℕ)) (are : AreOpeningNames 
 -- ---- the laws
 
 -- what is known of every state of every run
-pub run_is_known : (credit : CreditSpec) (names : List (List ℕ)) (events : List Event) → AreOpeningNames names → length events < greatest → IsRun (opening credit names) events → IsKnown (0 + length events) (last (opening credit names) events)
-run_is_known credit names events are few run = run_known credit names are [] (opening credit names) events 0 (omega arith) tt refl run (opening_known credit names are)
+pub run_is_known : (credit : CreditSpec) (names : List (List ℕ)) (events : List Act) → AreOpeningNames names → length events < greatest → IsRun (opening credit names) events → CopiesAreRight (opening credit names) events → IsKnown (0 + length events) (last (opening credit names) events)
+run_is_known credit names events are few run right = run_known credit names are [] (opening credit names) events 0 (omega arith) tt refl run right (opening_known credit names are)
 
 -- in every state of every run
-pub run_queue_right : (credit : CreditSpec) (names : List (List ℕ)) (events : List Event) → AreOpeningNames names → length events < greatest → IsRun (opening credit names) events → QueueIsRight (length events) (last (opening credit names) events)
-run_queue_right credit names events are few run =
-    let k : IsKnown (0 + length events) (last (opening credit names) events) = run_is_known credit names events are few run in
+pub run_queue_right : (credit : CreditSpec) (names : List (List ℕ)) (events : List Act) → AreOpeningNames names → length events < greatest → IsRun (opening credit names) events → CopiesAreRight (opening credit names) events → QueueIsRight (length events) (last (opening credit names) events)
+run_queue_right credit names events are few run right =
+    let k : IsKnown (0 + length events) (last (opening credit names) events) = run_is_known credit names events are few run right in
     record {
       agree = good_agree (part_of (last (opening credit names) events)) k.gives k.holds;
       stands = good_stands (part_of (last (opening credit names) events)) k.gives k.holds;

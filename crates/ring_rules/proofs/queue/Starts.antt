@@ -22,18 +22,18 @@ use Rattle.group_view.specs.View.{Group}
 use Rattle.group_view.specs.Since.{no_group}
 use Rattle.group_view.proofs.Rings.{nat_eq-is}
 use Rattle.group_view.specs.Change.{AreOpeningNames, marked}
-use Rattle.ring_rules.specs.declared.event.Event.{Event}
+use Rattle.ring_rules.specs.Act.{Act, refusal, effect, IsRun, last}
 use Rattle.ring_rules.specs.declared.phase.Ending.TheVariants.{Halted}
 use Rattle.ring_rules.specs.Refusal.{or_else}
 use Rattle.ring_rules.specs.Machine.{World, Member, no_member, member_at, view_in, newest}
 use Rattle.ring_rules.specs.Step.{size, log_of, published, publish_at, with_view, come_to, admitted_view, opening, stop_at}
 use Rattle.ring_rules.specs.declared.kind.Asking.TheVariants as asking
-use Rattle.ring_rules.specs.Event.{QueueSaying, Publishes, Does, MayPublish, asked_op, start_refusal, refreshed, refusal, effect, IsRun, last, erased_view, synced_view}
+use Rattle.ring_rules.specs.Event.{Marks, QueueSaying, Publishes, Does, MayPublish, asked_op, start_refusal, refreshed, erased_view, synced_view}
 use Rattle.ring_rules.specs.Laws.{GoesOn}
 use Rattle.ring_rules.specs.Work.{is_led, is_late}
 use Rattle.ring_rules.specs.QueueLaws.{LaterMastersStart}
 use Rattle.ring_rules.proofs.rings.Lists.{get_or_beyond}
-use Rattle.ring_rules.proofs.events.Cases.{each_event}
+use Rattle.ring_rules.proofs.events.Cases.{each_act}
 use Rattle.ring_rules.proofs.events.Composed.{end_composed, refresh_composed}
 use Rattle.ring_rules.proofs.events.First.{first_each, first_log}
 use Rattle.ring_rules.proofs.invariants.FromLeft.{IsGood}
@@ -43,7 +43,7 @@ use Rattle.ring_rules.proofs.runs.OwnLogs.{cast_log, cast_log_other}
 use Rattle.ring_rules.proofs.runs.Published.{KeepsLogs}
 use Rattle.ring_rules.proofs.work.TellFalls.{led_parts}
 use Rattle.ring_rules.proofs.queue.Asked.{operation_asked}
-use Rattle.ring_rules.proofs.queue.Told.{ToldStep, told_stays, told_now, event_told}
+use Rattle.ring_rules.proofs.queue.Told.{ToldStep, told_stays, told_now, act_told}
 use Rattle.ring_rules.proofs.runs.InOrder.{run_append, last_append}
 
 -- ---- what may be published
@@ -59,6 +59,7 @@ starts_or_on_time m g x started (Does asking.Get) o h = inr (refused_none (lead_
 starts_or_on_time m g x started (Does asking.Pop) o h = inr (refused_none (lead_refusal g x started) _ o h)
 starts_or_on_time m g x started (Does (asking.Ack at)) o h = inr (refused_none (lead_refusal g x started) _ o h)
 starts_or_on_time m g x started (Does (asking.Requeue at)) o h = inr (refused_none (lead_refusal g x started) _ o h)
+starts_or_on_time m g x started (Marks target) o h = inr (refused_none (lead_refusal g x started) _ o h)
 starts_or_on_time m g x started (Does asking.Depth) o h = inr (refused_none (lead_refusal g x started) _ o h)
 starts_or_on_time m g x started (Does asking.Start) o h = by_refusal (start_refusal g x started) h
   where
@@ -75,8 +76,8 @@ refreshed_views w x v = refresh_composed (λ u. u.views ≡ w.views) w x v (λ k
 abbrev MakesView : World → World → Type 0
 MakesView w w' = (w'.views ≡ w.views) ⊎ ((g : Group) × (w'.views ≡ w.views ++ g ∷ []))
 
-event_views : (w : World) (e : Event) → IsGood w → refusal w e ≡ None → MakesView w (effect w e)
-event_views w e g r = each_event (MakesView w) w e g (record {
+act_views : (w : World) (e : Act) → IsGood w → refusal w e ≡ None → MakesView w (effect w e)
+act_views w e g r = each_act (MakesView w) w e g (record {
   casts = λ x m u _. inl refl;
   puts = λ x o u out k. inl refl;
   takes = λ y s u m. inl refl;
@@ -91,7 +92,7 @@ event_views w e g r = each_event (MakesView w) w e g (record {
   refreshes = λ x v u m. inl (refreshed_views w x v);
   picks = λ y s u none door upto. inl refl;
   refuses = inl refl;
-}) r
+}) (λ x m u _. inl refl) r
 
 -- ---- the invariant
 
@@ -108,12 +109,12 @@ not_nothing : (l more : List Op) → l ≢ [] → l ++ more ≢ []
 not_nothing [] more ne = absurd (ne refl)
 not_nothing (o ∷ l) more ne = λ e. cc
 
-module _ (w : World) (e : Event) (g : IsGood w) (r : refusal w e ≡ None) (on : GoesOn w (effect w e)) (h : Starts w) where
+module _ (w : World) (e : Act) (g : IsGood w) (r : refusal w e ≡ None) (on : GoesOn w (effect w e)) (h : Starts w) where
   abbrev w' : World
   w' = effect w e
 
   first_now : (u m : ℕ) → (view_in w' u).term ≤ 1 → is_led (view_in w' u).master m ≡ true → m ≡ 1
-  first_now u m le led = by_views (event_views w e g r)
+  first_now u m le led = by_views (act_views w e g r)
     where
       by_views : MakesView w w' → m ≡ 1
       by_views (inl same) =
@@ -150,7 +151,7 @@ module _ (w : World) (e : Event) (g : IsGood w) (r : refusal w e ≡ None) (on :
   }
 
   goes : (x : ℕ) → Goes x
-  goes x = by_step (event_told w e r)
+  goes x = by_step (act_told w e r)
     where
       kept : KeepsLogs w w' → Goes x
       kept k = goes_same x (k.started x) (k.log x)
@@ -212,9 +213,9 @@ module _ (w : World) (e : Event) (g : IsGood w) (r : refusal w e ≡ None) (on :
                       by_late true ea true eb late led = st (ap (λ q. (member_at w q).started) (sym here) ∙ eb) refl
                       by_late true ea false eb late led = false≢true (sym late)
 
-  pub event_starts : Starts w'
-  event_starts = record {
-    some = by_views (event_views w e g r);
+  pub act_starts : Starts w'
+  act_starts = record {
+    some = by_views (act_views w e g r);
     term = omega (arith, h.term, on.leads.rises);
     first = first_now;
     started = λ x. (goes x).started;
@@ -242,13 +243,13 @@ opening_starts credit names = record {
     first (suc (suc u)) m le led = absurd (false≢true led)
 
 module _ (credit : CreditSpec) (names : List (List ℕ)) (are : AreOpeningNames names) where
-  run_starts_from : (done : List Event) (w : World) (es : List Event) → IsRun (opening credit names) done → w ≡ last (opening credit names) done → IsRun w es → Starts w → Starts (last w es)
+  run_starts_from : (done : List Act) (w : World) (es : List Act) → IsRun (opening credit names) done → w ≡ last (opening credit names) done → IsRun w es → Starts w → Starts (last w es)
   run_starts_from done w [] run is q k = k
   run_starts_from done w (e ∷ es) run is q k =
       let more : IsRun (opening credit names) (done ++ e ∷ []) = run_append (opening credit names) done (e ∷ []) run (subst (λ u. refusal u e ≡ None) is q.0, tt) in
       run_starts_from (done ++ e ∷ []) (effect w e) es more (ap (λ u. effect u e) is ∙ sym (last_append (opening credit names) done (e ∷ []))) q.1
-      (event_starts w e (subst IsGood (sym is) (reached_good credit names done are run)) q.0
+      (act_starts w e (subst IsGood (sym is) (reached_good credit names done are run)) q.0
       (subst (λ u. GoesOn u (effect u e)) (sym is) (every_run_goes_on credit names done (e ∷ []) are run (subst (λ u. refusal u e ≡ None) is q.0, tt))) k)
 
-  pub run_starts : (events : List Event) → IsRun (opening credit names) events → LaterMastersStart (last (opening credit names) events)
+  pub run_starts : (events : List Act) → IsRun (opening credit names) events → LaterMastersStart (last (opening credit names) events)
   run_starts events r = (run_starts_from [] (opening credit names) events tt refl r (opening_starts credit names)).starts

@@ -28,18 +28,18 @@ use Rattle.group_view.proofs.Marks.{with_mark_id}
 use Rattle.group_view.proofs.History.{entry_keeps}
 use Rattle.group_view.proofs.Syncing.{synced_keeps, same_ring_registered}
 use Rattle.group_view.proofs.Joining.{MayAdmit, entry_other, below_at, not_in_after_other, ids-admitted, stays_in}
-use Rattle.ring_rules.specs.declared.event.Event.{Event}
+use Rattle.ring_rules.specs.Act.{Deed, OfKind, Copies, deed_refusal, deed_done, Act, refusal, effect, IsRun, last}
 use Rattle.ring_rules.specs.Machine.{World, Member, no_member, member_at, view_in, newest, ring}
-use Rattle.ring_rules.specs.Step.{size, log_of, published, publish_at, opening}
+use Rattle.ring_rules.specs.Step.{copied, size, log_of, published, publish_at, opening}
 use Rattle.ring_rules.specs.Lawful.{row_of, JoinsInTime}
 use Rattle.ring_rules.specs.Laws.{GoesOn}
-use Rattle.ring_rules.specs.Event.{Saying, Own, OfQueue, kind_of, id_of, of_member, MayPublish, op_as, op_refusal, op_done, queue_message, saying_refusal, said, by_of, refused_as, refused_at, done_as, done_at, at_found, refusal, effect, IsRun, last, erased_view, synced_view}
+use Rattle.ring_rules.specs.Event.{Saying, Own, OfQueue, Kind, id_of, of_member, MayPublish, op_as, op_refusal, op_done, queue_message, saying_refusal, said, refused_as, done_as, at_found, erased_view, synced_view}
 use Rattle.ring_rules.proofs.rings.Lists.{get_or_beyond}
 use Rattle.ring_rules.proofs.events.Refusals.{id_within}
 use Rattle.ring_rules.proofs.events.Enabled.{up_none}
 use Rattle.ring_rules.proofs.invariants.FromLeft.{IsGood, HasViews}
 use Rattle.ring_rules.proofs.invariants.Happens.{ring_below, reached_good}
-use Rattle.ring_rules.proofs.invariants.Moves.{Move, event_moves}
+use Rattle.ring_rules.proofs.invariants.Moves.{Move, act_moves}
 use Rattle.ring_rules.proofs.invariants.NeverSent.{next_joined, admitted_joined}
 use Rattle.ring_rules.proofs.invariants.Newest.{NewestAfter, newest_stays, newest_marked, newest_erased, newest_synced, newest_admitted, newest_after}
 use Rattle.ring_names.specs.declared.numbers.CreditSpec.{CreditSpec}
@@ -48,7 +48,7 @@ use Rattle.ring_rules.proofs.runs.AllRuns.{every_run_goes_on}
 use Rattle.ring_rules.proofs.runs.JoinsInTime.{run_joins_in_time}
 use Rattle.ring_rules.proofs.runs.InOrder.{run_append, last_append}
 use Rattle.ring_rules.proofs.runs.OwnLogs.{cast_log}
-use Rattle.ring_rules.proofs.runs.Published.{KeepsLogs, KindStep, keeps_all, says_one, kind_step}
+use Rattle.ring_rules.proofs.runs.Published.{write_keeps, KeepsLogs, KindStep, keeps_all, says_one, kind_step}
 
 -- ---- when an entry came
 
@@ -145,9 +145,9 @@ move_joined G w w' g k = by_newest (newest_after G w w' g k)
     by_newest (newest_synced x m sizes is) = subst (SeesJoined v) (sym is) (sees_same v (synced_view w x) (omega arith) (same_ring_registered v x).same_ids (registered_joined v x))
     by_newest (newest_admitted m name j sizes is) = subst (SeesJoined v) (sym is) (admitted_sees v m name j.may)
 
-event_joined : (w : World) (e : Event) → IsGood w → refusal w e ≡ None → SeesJoined (view_in w (newest w)) (view_in (effect w e) (newest (effect w e)))
-event_joined w e g r =
-    event_moves IsGood (λ u. SeesJoined (view_in w (newest w)) (view_in u (newest u)))
+act_joined : (w : World) (e : Act) → IsGood w → refusal w e ≡ None → SeesJoined (view_in w (newest w)) (view_in (effect w e) (newest (effect w e)))
+act_joined w e g r =
+    act_moves IsGood (λ u. SeesJoined (view_in w (newest w)) (view_in u (newest u)))
     (λ u u' gu k h. sees_then (view_in w (newest w)) (view_in u (newest u)) (view_in u' (newest u')) h (move_joined IsGood u u' gu k))
     w e g g r (sees_same (view_in w (newest w)) (view_in w (newest w)) (omega arith) refl (λ n. refl))
 
@@ -156,24 +156,28 @@ pub data ToldStep (w w' : World) : Type 0 where
   told_stays : KeepsLogs w w' → ToldStep w w'
   told_now : (y : ℕ) (m : Message) → 1 ≤ y → y < size w → MayPublish w y m → w' ≡ publish_at w y m → ToldStep w w'
 
-pub event_told : (w : World) (e : Event) → refusal w e ≡ None → ToldStep w (effect w e)
-event_told w e r = by_id (id_of w (by_of e)) refl r
+pub act_told : (w : World) (e : Act) → refusal w e ≡ None → ToldStep w (effect w e)
+act_told w e r = by_id (id_of w e.by) refl r
   where
-    by_id : (o : Option ℕ) → id_of w (by_of e) ≡ o → of_member o (refused_at w e) ≡ None → ToldStep w (at_found o w (done_at w e))
+    by_id : (o : Option ℕ) → id_of w e.by ≡ o → of_member o (λ y. deed_refusal w y e.deed) ≡ None → ToldStep w (at_found o w (λ y. deed_done w y e.deed))
     by_id None found h = cc
-    by_id (Some y) found h = by_step (kind_step w y (kind_of e))
+    by_id (Some y) found h = by_deed e.deed h
       where
         by_saying : (s : Saying) → saying_refusal w y s ≡ None → ToldStep w (said w y s)
-        by_saying (Own body) k = let i = id_within w (by_of e) y found in told_now y (message.Cast body) i.0 i.1 (Own body, refl) refl
+        by_saying (Own body) k = let i = id_within w e.by y found in told_now y (message.Cast body) i.0 i.1 (Own body, refl) refl
         by_saying (OfQueue q) k = by_op (op_as w y q) refl k
           where
             by_op : (o : Result Op Reason) → op_as w y q ≡ o → op_refusal o ≡ None → ToldStep w (op_done w y o)
-            by_op (Ok o) is n = let i = id_within w (by_of e) y found in told_now y (message.Queue o) i.0 i.1 (OfQueue q, ap queue_message is) refl
+            by_op (Ok o) is n = let i = id_within w e.by y found in told_now y (message.Queue o) i.0 i.1 (OfQueue q, ap queue_message is) refl
             by_op (Err q) is n = cc
 
-        by_step : KindStep w y (kind_of e) → ToldStep w (done_as w y (kind_of e))
-        by_step (keeps_all kept nothing) = told_stays kept
-        by_step (says_one s same) = subst (λ k. ToldStep w (done_as w y k)) (sym same) (by_saying s (up_none w y _ (ap (refused_as w y) (sym same) ∙ h)).1)
+        by_step : (k : Kind) → refused_as w y k ≡ None → KindStep w y k → ToldStep w (done_as w y k)
+        by_step k h (keeps_all kept nothing) = told_stays kept
+        by_step k h (says_one s same) = subst (λ k. ToldStep w (done_as w y k)) (sym same) (by_saying s (up_none w y _ (ap (refused_as w y) (sym same) ∙ h)).1)
+
+        by_deed : (d : Deed) → deed_refusal w y d ≡ None → ToldStep w (deed_done w y d)
+        by_deed (OfKind k) h = by_step k h (kind_step w y k)
+        by_deed (Copies m) h = told_stays (write_keeps w y (copied m (member_at w y)) refl refl refl refl)
 
 -- ---- logs that grow
 
@@ -222,7 +226,7 @@ pub record Tells (w : World) : Type 0 where
   pub joined : (n : ℕ) → is_in n (ring w) ≡ true → (entry_in (view_in w (newest w)).entries n).joined ≤ (view_in w (newest w)).version
   pub tells : (x n : ℕ) → is_in n (ring w) ≡ true → (entry_in (view_in w (newest w)).entries n).joined ≤ (member_at w x).told → tells_behind (row_of w n x).born (log_of w x) ≡ true
 
-module _ (w : World) (e : Event) (g : IsGood w) (r : refusal w e ≡ None) (on : GoesOn w (effect w e)) (born : JoinsInTime w) (h : Tells w) where
+module _ (w : World) (e : Act) (g : IsGood w) (r : refusal w e ≡ None) (on : GoesOn w (effect w e)) (born : JoinsInTime w) (h : Tells w) where
   abbrev w' : World
   w' = effect w e
 
@@ -233,7 +237,7 @@ module _ (w : World) (e : Event) (g : IsGood w) (r : refusal w e ≡ None) (on :
   v' = view_in w' (newest w')
 
   s : SeesJoined v v'
-  s = event_joined w e g r
+  s = act_joined w e g r
 
   -- who was told before is told
   lift : (x n : ℕ) → is_in n (ring w) ≡ true → (entry_in v.entries n).joined ≤ (member_at w x).told → tells_behind (row_of w' n x).born (log_of w' x) ≡ true
@@ -257,7 +261,7 @@ module _ (w : World) (e : Event) (g : IsGood w) (r : refusal w e ≡ None) (on :
   still_same x same = record { within = omega (arith, same, h.within x); tells = λ n i le. lift x n i (omega (arith, le, same)) }
 
   still : (x : ℕ) → Still x
-  still x = by_step (event_told w e r)
+  still x = by_step (act_told w e r)
     where
       by_step : ToldStep w w' → Still x
       by_step (told_stays same) = still_same x (same.told x)
@@ -285,8 +289,8 @@ module _ (w : World) (e : Event) (g : IsGood w) (r : refusal w e ≡ None) (on :
                     ∙ now_tells (row_of w n x).born (log_of w x) m (born.born n x) eb;
               }
 
-  pub event_tells : Tells w'
-  event_tells = record {
+  pub act_tells : Tells w'
+  act_tells = record {
     within = λ x. let k = (still x).within in omega (arith, k, s.more);
     joined = λ n i. ⊎_elim
         (λ (was : is_in n (ids v.entries) ≡ true). let k = h.joined n was in omega (arith, k, s.old n was, s.more))
@@ -321,14 +325,14 @@ opening_tells credit names = record {
     none_told x = first_each credit names x (λ a. a.told ≡ 0) (λ _ _. refl) refl
 
 module _ (credit : CreditSpec) (names : List (List ℕ)) (are : AreOpeningNames names) where
-  run_tells_from : (done : List Event) (w : World) (es : List Event) → IsRun (opening credit names) done → w ≡ last (opening credit names) done → IsRun w es → Tells w → Tells (last w es)
+  run_tells_from : (done : List Act) (w : World) (es : List Act) → IsRun (opening credit names) done → w ≡ last (opening credit names) done → IsRun w es → Tells w → Tells (last w es)
   run_tells_from done w [] run is q k = k
   run_tells_from done w (e ∷ es) run is q k =
       let more : IsRun (opening credit names) (done ++ e ∷ []) = run_append (opening credit names) done (e ∷ []) run (subst (λ u. refusal u e ≡ None) is q.0, tt) in
       run_tells_from (done ++ e ∷ []) (effect w e) es more (ap (λ u. effect u e) is ∙ sym (last_append (opening credit names) done (e ∷ []))) q.1
-      (event_tells w e (subst IsGood (sym is) (reached_good credit names done are run)) q.0
+      (act_tells w e (subst IsGood (sym is) (reached_good credit names done are run)) q.0
       (subst (λ u. GoesOn u (effect u e)) (sym is) (every_run_goes_on credit names done (e ∷ []) are run (subst (λ u. refusal u e ≡ None) is q.0, tt)))
       (subst JoinsInTime (sym is) (run_joins_in_time credit names done are run)) k)
 
-  pub run_tells : (events : List Event) → IsRun (opening credit names) events → Tells (last (opening credit names) events)
+  pub run_tells : (events : List Act) → IsRun (opening credit names) events → Tells (last (opening credit names) events)
   run_tells events r = run_tells_from [] (opening credit names) events tt refl r (opening_tells credit names)

@@ -4,18 +4,18 @@ use Rattle.std.proofs.lemmas.List.{length-set, length_push, get_or_append_left}
 use Rattle.std.proofs.lemmas.Bool.{false≢true, cases_lt}
 use Rattle.ring_names.specs.declared.numbers.CreditSpec.{CreditSpec}
 use Rattle.group_view.specs.Change.{AreOpeningNames, marked}
-use Rattle.ring_rules.specs.declared.event.Event.{Event}
+use Rattle.ring_rules.specs.Act.{Act, refusal, effect, IsRun, last}
 use Rattle.ring_rules.specs.View.{right_of}
 use Rattle.ring_rules.specs.Machine.{Ending, Moved, Halted, Member, Link, World, no_link, no_member, member_at, link_at, view_in, newest, runs, runs_phase, oldest}
-use Rattle.ring_rules.specs.Step.{size, published, taker, begun, joiner, come_to, popped, pushed, next_packet, current_is, with_current, finished, ended, ended_so, stop_at, stopped, end_out, with_member, with_link, with_view, look_at, moved_to, open_to, opened_link, opening, opening_member}
+use Rattle.ring_rules.specs.Step.{copied, size, published, taker, begun, joiner, come_to, popped, pushed, next_packet, current_is, with_current, finished, ended, ended_so, stop_at, stopped, end_out, with_member, with_link, with_view, look_at, moved_to, open_to, opened_link, opening, opening_member}
 use Rattle.group_view.specs.View.{Group}
-use Rattle.ring_rules.specs.Event.{erased_view, send_to, refreshed, refusal, effect, IsRun, last, synced_view}
+use Rattle.ring_rules.specs.Event.{erased_view, send_to, refreshed, synced_view}
 use Rattle.ring_rules.proofs.rings.Lists.{at_set, at_push, get_or_beyond}
 use Rattle.ring_rules.proofs.invariants.Kept.{Inv}
 use Rattle.ring_rules.proofs.invariants.KeptAdmit.{CanJoin}
 use Rattle.ring_rules.proofs.runs.LinesKept.{come_was}
-use Rattle.ring_rules.proofs.events.Cases.{each_event}
-use Rattle.ring_rules.proofs.invariants.Happens.{IsGood, opening_good, can_join, run_events}
+use Rattle.ring_rules.proofs.events.Cases.{each_act}
+use Rattle.ring_rules.proofs.invariants.Happens.{IsGood, opening_good, can_join, run_acts}
 use Rattle.ring_rules.proofs.events.First.{first_at, first_link_is, first_links}
 
 -- x runs and sends on the link o
@@ -145,8 +145,8 @@ admit_goes w m name j h =
         (cases_lt (link_at w s).sender (size w))
 
 -- one event more
-event_goes : (w : World) (e : Event) → IsGood w → refusal w e ≡ None → GoOn w → GoOn (effect w e)
-event_goes w e g r h = each_event GoOn w e g (record {
+act_goes : (w : World) (e : Act) → IsGood w → refusal w e ≡ None → GoOn w → GoOn (effect w e)
+act_goes w e g r h = each_act GoOn w e g (record {
   casts = λ x m u _. member_goes w x (published x m (member_at w x)) u.lt refl refl h;
   puts = λ x o u out k. link_goes w o (pushed (link_at w o) (next_packet (member_at w x) (link_at w o).sending)) (g.inv.linked.out_lt x o (ap runs_phase u.up) out) refl (λ e2. e2) h;
   takes = λ y s u m. pop_goes w y s (taker w y s) u.lt (g.inv.current.lt y s (ap runs_phase u.up) m.current) refl refl h;
@@ -161,7 +161,7 @@ event_goes w e g r h = each_event GoOn w e g (record {
   refreshes = λ x v u m. refresh_goes w x v u.lt (ap runs_phase u.up) (λ o e2. g.inv.linked.out_lt x o (ap runs_phase u.up) e2) h;
   picks = λ y s u none door upto. member_goes w y (with_current (Some s) (member_at w y)) u.lt refl refl h;
   refuses = h;
-}) r
+}) (λ x m u _. member_goes w x (copied m (member_at w x)) u.lt refl refl h) r
 
 -- each member of the opening sends on the link at its own place
 opening_goes : (credit : CreditSpec) (names : List (List ℕ)) → GoOn (opening credit names)
@@ -173,5 +173,5 @@ opening_goes credit names s sl e =
     subst (λ q. SendsThere (member_at w q) s) (sym from) (subst (λ a. SendsThere a s) (sym member) (refl, ap (λ k. Some k) place))
 
 -- so in every state of every run of a ring with these names
-pub reached_goes : (credit : CreditSpec) (names : List (List ℕ)) (es : List Event) → AreOpeningNames names → IsRun (opening credit names) es → GoOn (last (opening credit names) es)
-reached_goes credit names es are r = run_events GoOn event_goes (opening credit names) es (opening_good credit names are) r (opening_goes credit names)
+pub reached_goes : (credit : CreditSpec) (names : List (List ℕ)) (es : List Act) → AreOpeningNames names → IsRun (opening credit names) es → GoOn (last (opening credit names) es)
+reached_goes credit names es are r = run_acts GoOn act_goes (opening credit names) es (opening_good credit names are) r (opening_goes credit names)

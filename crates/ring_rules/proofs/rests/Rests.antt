@@ -15,7 +15,8 @@ use Rattle.group_view.proofs.Rings.{sym_test, not_equal_in}
 use Rattle.ring_rules.specs.View.{is_live, left_of, right_of}
 use Rattle.ring_rules.specs.Machine.{Phase, Waiting, Up, Stopped, World, no_member, member_at, view_in, newest, ring, left, right, runs, runs_phase}
 use Rattle.ring_rules.specs.Step.{size, log_of, opening}
-use Rattle.ring_rules.specs.Event.{Event, IsRun, last, is_stopped, left_neighbour, is_neighbour, is_still_taken, at_door, mark_refusal}
+use Rattle.ring_rules.specs.Event.{is_stopped, left_neighbour, is_neighbour, is_still_taken, at_door, mark_refusal}
+use Rattle.ring_rules.specs.Act.{Act, IsRun, last}
 use Rattle.ring_rules.specs.Lawful.{row_of}
 use Rattle.ring_rules.specs.Idle.{NobodySteps, MarksNobody, ErasesNobody, HasNobodyGone, IsIdle}
 use Rattle.ring_rules.specs.Quiet.{IsAtRest, RingRests}
@@ -192,7 +193,7 @@ rests_where w rests = by_one (somebody w (size w))
     by_one (inr k) = inr (rests k.0 k.1)
 
 -- what holds in every state of every run
-pub reached : (credit : CreditSpec) (names : List (List ℕ)) (events : List Event) → AreOpeningNames names → IsRun (opening credit names) events → IsReached (last (opening credit names) events)
+pub reached : (credit : CreditSpec) (names : List (List ℕ)) (events : List Act) → AreOpeningNames names → IsRun (opening credit names) events → IsReached (last (opening credit names) events)
 reached credit names events are r = record {
   good = reached_good credit names events are r;
   ends = reached_ends credit names events are r;
@@ -204,13 +205,13 @@ reached credit names events are r = record {
 }
 
 -- in each of them, an idle ring rests
-pub run_idle_rests : (credit : CreditSpec) (names : List (List ℕ)) (events : List Event) → AreOpeningNames names → IsRun (opening credit names) events → IsIdle (last (opening credit names) events) → RingRests (last (opening credit names) events)
+pub run_idle_rests : (credit : CreditSpec) (names : List (List ℕ)) (events : List Act) → AreOpeningNames names → IsRun (opening credit names) events → IsIdle (last (opening credit names) events) → RingRests (last (opening credit names) events)
 run_idle_rests credit names events are r idle =
     let w : World = last (opening credit names) events in
     rests_where w (λ y ry. idle_rests w (reached credit names events are r) (run_logged credit names events are r) idle y ry)
 
 -- and one rests in which nobody has a step to do, somebody at its right to have marked, or somebody to have erased
-pub run_worked_rests : (credit : CreditSpec) (names : List (List ℕ)) (events : List Event) → AreOpeningNames names → IsRun (opening credit names) events
+pub run_worked_rests : (credit : CreditSpec) (names : List (List ℕ)) (events : List Act) → AreOpeningNames names → IsRun (opening credit names) events
     → NobodySteps (last (opening credit names) events) → MarksNobody (last (opening credit names) events) → ErasesNobody (last (opening credit names) events) → RingRests (last (opening credit names) events)
 run_worked_rests credit names events are r steps marks erases =
     let w : World = last (opening credit names) events in

@@ -3,7 +3,7 @@ use Rattle.std.proofs.Common.{ℕ, List}
 use Rattle.ring_names.specs.declared.numbers.CreditSpec.{CreditSpec}
 use Rattle.group_view.specs.Change.{AreOpeningNames}
 use Rattle.ring_rules.specs.Step.{opening}
-use Rattle.ring_rules.specs.Event.{Event, IsRun, last}
+use Rattle.ring_rules.specs.Act.{Act, IsRun, last}
 use Rattle.ring_rules.specs.Lawful.{HearsAllSince}
 use Rattle.ring_rules.specs.Laws.{IsLawful, GoesOn}
 use Rattle.ring_rules.proofs.invariants.FromLeft.{views_keep_since}
@@ -22,11 +22,11 @@ use Rattle.ring_rules.proofs.runs.LinksStand.{reached_links_stand}
 use Rattle.ring_rules.proofs.runs.NeverFalls.{run_never_falls}
 use Rattle.ring_rules.proofs.runs.InOrder.{HasNoGap, run_hears_in_order, run_hears_what_follows}
 
-runs_have_no_gap : (credit : CreditSpec) (names : List (List ℕ)) → AreOpeningNames names → (es : List Event) → IsRun (opening credit names) es → HasNoGap (last (opening credit names) es)
+runs_have_no_gap : (credit : CreditSpec) (names : List (List ℕ)) → AreOpeningNames names → (es : List Act) → IsRun (opening credit names) es → HasNoGap (last (opening credit names) es)
 runs_have_no_gap credit names are es r = λ y s m p some within own.
     no_gap (last (opening credit names) es) y s p (reached_lines credit names es are r) m.up m.current some within own
 
-pub every_state_lawful : (credit : CreditSpec) (names : List (List ℕ)) (events : List Event) → AreOpeningNames names → IsRun (opening credit names) events → IsLawful credit.initial (last (opening credit names) events)
+pub every_state_lawful : (credit : CreditSpec) (names : List (List ℕ)) (events : List Act) → AreOpeningNames names → IsRun (opening credit names) events → IsLawful credit.initial (last (opening credit names) events)
 every_state_lawful credit names events are run = record {
   walks = λ origin some within. open_walk_never_rises credit names events origin are run some within;
   all_since = heard_since;
@@ -49,7 +49,7 @@ every_state_lawful credit names events are run = record {
         (run_stays_within_logs credit names events are run)
         (run_joins_in_time credit names events are run)
 
-pub every_run_goes_on : (credit : CreditSpec) (names : List (List ℕ)) (earlier later : List Event) → AreOpeningNames names → IsRun (opening credit names) earlier → IsRun (last (opening credit names) earlier) later
+pub every_run_goes_on : (credit : CreditSpec) (names : List (List ℕ)) (earlier later : List Act) → AreOpeningNames names → IsRun (opening credit names) earlier → IsRun (last (opening credit names) earlier) later
     → GoesOn (last (opening credit names) earlier) (last (last (opening credit names) earlier) later)
 every_run_goes_on credit names earlier later are run more = record {
   never_falls = run_never_falls credit names earlier later are run more;

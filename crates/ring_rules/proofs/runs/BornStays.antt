@@ -6,7 +6,7 @@ use Rattle.ring_rules.proofs.events.Leaves.{come_member}
 use Rattle.ring_rules.specs.Rows.{Row, no_row, taken_row}
 use Rattle.ring_rules.specs.Machine.{World, no_member, row_at, numbers_at, member_at, link_at, view_in, oldest}
 use Rattle.ring_rules.specs.Step.{size, log_of, published, is_owned, taker, begun, stopped, stop_at, open_to, opening}
-use Rattle.ring_rules.specs.Event.{Event, IsRun, last}
+use Rattle.ring_rules.specs.Act.{Act, IsRun, last}
 use Rattle.ring_rules.specs.Lawful.{row_of, KeepsBorn}
 use Rattle.ring_rules.proofs.rings.Lists.{at_set}
 use Rattle.ring_rules.proofs.invariants.Happens.{IsGood, reached_good}
@@ -59,7 +59,7 @@ part_later w0 w w' k h = record {
 }
 
 -- from each state of a run to each later one
-pub run_keeps_born : (credit : CreditSpec) (names : List (List ℕ)) (es later : List Event) → AreOpeningNames names → IsRun (opening credit names) es → IsRun (last (opening credit names) es) later → KeepsBorn (last (opening credit names) es) (last (last (opening credit names) es) later)
+pub run_keeps_born : (credit : CreditSpec) (names : List (List ℕ)) (es later : List Act) → AreOpeningNames names → IsRun (opening credit names) es → IsRun (last (opening credit names) es) later → KeepsBorn (last (opening credit names) es) (last (last (opening credit names) es) later)
 run_keeps_born credit names es later are r k =
     let w : World = last (opening credit names) es in
     (run_keeps (IsBorn w) (part_later w) w later (reached_good credit names es are r) k (record { more = omega arith; born = λ q p _ _. refl; logged = run_logged credit names es are r })).born

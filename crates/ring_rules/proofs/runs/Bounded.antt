@@ -1,5 +1,6 @@
 -- The numbers that the events of a run name are small.
 use Rattle.std.proofs.Common.{◌≡◌, ℕ, ◌<◌, ◌≤◌, true, not, nat_eq, List, [], ◌∷◌, Option, Some, None, ap, subst, arith}
+use Rattle.ring_rules.specs.Act.{act_of}
 use Rattle.std.specs.Prelude.{All}
 use Rattle.std.proofs.lemmas.Bool.{and_parts}
 use Rattle.std.proofs.lemmas.List.Elements.{All-nil, All-cons}
@@ -18,7 +19,7 @@ use Rattle.ring_rules.specs.Step.{opening}
 use Rattle.ring_rules.proofs.events.Enabled.{up_none, refresh_later, refresh_upto}
 use Rattle.ring_rules.proofs.events.Refusals.{refuse_none, not_false}
 use Rattle.ring_rules.proofs.invariants.FromLeft.{IsGood, version_some}
-use Rattle.ring_rules.proofs.invariants.Happens.{newest_is, opening_good, event_good}
+use Rattle.ring_rules.proofs.invariants.Happens.{newest_is, opening_good, act_good}
 use Rattle.ring_rules.proofs.queue.Told.{newest_version}
 
 -- each refusal has a number among these
@@ -95,7 +96,7 @@ event_bounded w e g r = tt
 
 run_bounded : (w : World) (es : List Event) → IsGood w → IsRun w es → All IsBounded es
 run_bounded w [] g r = All-nil IsBounded
-run_bounded w (e ∷ es) g r = All-cons IsBounded e es (event_bounded w e g r.0) (run_bounded (effect w e) es (event_good w e g r.0) r.1)
+run_bounded w (e ∷ es) g r = All-cons IsBounded e es (event_bounded w e g r.0) (run_bounded (effect w e) es (act_good w (act_of e) g r.0) r.1)
 
 -- each event of each run
 pub reached_bounded : (credit : CreditSpec) (names : List (List ℕ)) (es : List Event) → AreOpeningNames names → IsRun (opening credit names) es → All IsBounded es

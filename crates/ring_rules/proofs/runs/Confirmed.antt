@@ -10,8 +10,8 @@ use Rattle.group_view.proofs.Neighbours.{in-filter}
 use Rattle.ring_rules.specs.Machine.{Phase, Waiting, Up, Stopped, World, Member, no_member, row_at, numbers_at, member_at, link_at, newest, ring, runs, runs_phase, oldest}
 use Rattle.ring_rules.proofs.walks.CountedWalk.{numbers, counted, only, no_but, is_early, retired_by, stopped_from, running_from}
 use Rattle.ring_rules.specs.OpenLinks.{number, own_number, first_packet}
-use Rattle.ring_rules.specs.Step.{size, published, taker, begun, with_current, stopped, moved_to, with_member, look_at, opening}
-use Rattle.ring_rules.specs.Event.{Event, IsRun, last}
+use Rattle.ring_rules.specs.Step.{copied, size, published, taker, begun, with_current, stopped, moved_to, with_member, look_at, opening}
+use Rattle.ring_rules.specs.Act.{Act, IsRun, last}
 use Rattle.ring_rules.specs.Lawful.{row_of, ConfirmedEverywhere}
 use Rattle.ring_rules.proofs.rings.Lists.{at_set}
 use Rattle.ring_rules.proofs.walks.Put.{runs_phase-Up, number_up}
@@ -25,7 +25,7 @@ use Rattle.ring_rules.proofs.invariants.Happens.{IsGood, opening_good, reached_g
 use Rattle.ring_rules.proofs.walks.Twice.{gots, forgots, Edits}
 use Rattle.ring_rules.proofs.invariants.TwiceKept.{stop_edits}
 use Rattle.ring_rules.proofs.walks.Agreed.{AllFrom, all_from_at, all_from_each, all_from_kept}
-use Rattle.ring_rules.proofs.invariants.Moves.{Move, cast_move, put_move, take_move, begin_move, current_move, stop_move, way_move, look_move, open_move, mark_move, erase_move, sync_move, join_move, run_moves}
+use Rattle.ring_rules.proofs.invariants.Moves.{copy_move, Move, cast_move, put_move, take_move, begin_move, current_move, stop_move, way_move, look_move, open_move, mark_move, erase_move, sync_move, join_move, run_moves}
 use Rattle.ring_rules.proofs.walks.MoveEdits.{move_edits}
 
 -- each running member stands in the walk of each origin
@@ -124,6 +124,7 @@ moved_on w w' p g k some pl r = by_move k
     by_move (take_move y s m e) = written _ y (taker w y s) refl e m.is_member (ap runs_phase m.up)
     by_move (begin_move y s m e) = written _ y (begun (size w) (member_at w y) (oldest (link_at w s))) refl e m.is_member refl
     by_move (current_move y c lt up q e) = written _ y (with_current c (member_at w y)) refl e lt (ap runs_phase up)
+    by_move (copy_move x m lt up e) = written _ x (copied m (member_at w x)) refl e lt (ap runs_phase up)
     by_move (stop_move x lt rx e) = subst (λ u. p < size u → MovedOn w u p) (sym e) (λ pl.
         let l2 : p < size w = omega (arith, pl, length-set w.members x (stopped (member_at w x))) in
         record {
@@ -174,9 +175,9 @@ good_confirmed w g h = record {
     number_waits q p s waits current = ap (λ f. own_number (λ k. k.got) (λ r. r.got) w p f (member_at w q)) waits ∙ ap (λ c. (numbers_at (first_packet w c) p).got) current
 
 -- in every state of every run
-pub run_stopped_confirms : (credit : CreditSpec) (names : List (List ℕ)) (es : List Event) → AreOpeningNames names → IsRun (opening credit names) es → StoppedConfirms (last (opening credit names) es)
+pub run_stopped_confirms : (credit : CreditSpec) (names : List (List ℕ)) (es : List Act) → AreOpeningNames names → IsRun (opening credit names) es → StoppedConfirms (last (opening credit names) es)
 run_stopped_confirms credit names es are r = run_moves StoppedConfirms move_confirms (opening credit names) es (opening_good credit names are) r (opening_confirms credit names)
 
 -- the law in every state of every run
-pub run_confirmed_everywhere : (credit : CreditSpec) (names : List (List ℕ)) (es : List Event) → AreOpeningNames names → IsRun (opening credit names) es → ConfirmedEverywhere (last (opening credit names) es)
+pub run_confirmed_everywhere : (credit : CreditSpec) (names : List (List ℕ)) (es : List Act) → AreOpeningNames names → IsRun (opening credit names) es → ConfirmedEverywhere (last (opening credit names) es)
 run_confirmed_everywhere credit names es are r = good_confirmed (last (opening credit names) es) (reached_good credit names es are r) (run_stopped_confirms credit names es are r)

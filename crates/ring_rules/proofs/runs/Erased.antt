@@ -18,7 +18,7 @@ use Rattle.ring_rules.specs.Machine.{World, runs_phase, Packet, Link, no_packet,
 use Rattle.ring_rules.specs.OpenLinks.{NeverRises, number, is_open, packets_of}
 use Rattle.ring_rules.proofs.walks.CountedWalk.{newest_first, numbers, counted, only, no_but, is_early, block, round_of, retired_by, stopped_from, running_from, walk}
 use Rattle.ring_rules.specs.Step.{size, admitted_view, opening}
-use Rattle.ring_rules.specs.Event.{Event, IsRun, last}
+use Rattle.ring_rules.specs.Act.{Act, IsRun, last}
 use Rattle.ring_rules.specs.Lawful.{row_of, has_erased, AgreesOn, ErasedAgrees, StaysErased}
 use Rattle.ring_rules.proofs.rings.Rounds.{nat_eq-is, nat_eq-not}
 use Rattle.ring_rules.proofs.walks.Links.{numbers_none}
@@ -269,18 +269,18 @@ agrees_settled w p n a s good = by_running (running_from w p) refl
 opening_settled : (credit : CreditSpec) (names : List (List ℕ)) → ErasedSettled (opening credit names)
 opening_settled credit names p some lt er = absurd (apart (entry_in (view_in (opening credit names) (newest (opening credit names))).entries p).mark er (opening_live_at credit names p some lt))
 
-pub run_erased_settled : (credit : CreditSpec) (names : List (List ℕ)) (es : List Event) → AreOpeningNames names → IsRun (opening credit names) es → ErasedSettled (last (opening credit names) es)
+pub run_erased_settled : (credit : CreditSpec) (names : List (List ℕ)) (es : List Act) → AreOpeningNames names → IsRun (opening credit names) es → ErasedSettled (last (opening credit names) es)
 run_erased_settled credit names es are r = run_moves ErasedSettled move_settled (opening credit names) es (opening_good credit names are) r (opening_settled credit names)
 
 -- in every state of every run all numbers of an erased origin agree
-pub run_erased_agrees : (credit : CreditSpec) (names : List (List ℕ)) (es : List Event) → AreOpeningNames names → IsRun (opening credit names) es → ErasedAgrees (last (opening credit names) es)
+pub run_erased_agrees : (credit : CreditSpec) (names : List (List ℕ)) (es : List Act) → AreOpeningNames names → IsRun (opening credit names) es → ErasedAgrees (last (opening credit names) es)
 run_erased_agrees credit names es are r p some lt er =
     let w : World = last (opening credit names) es in
     let s : IsSettled w p = run_erased_settled credit names es are r p some lt er in
     record { on = s.on; agrees = settled_agrees w p s.on (reached_good credit names es are r) (reached_ends credit names es are r) s.all }
 
 -- and never change
-pub run_stays_erased : (credit : CreditSpec) (names : List (List ℕ)) (es later : List Event) → AreOpeningNames names → IsRun (opening credit names) es → IsRun (last (opening credit names) es) later → StaysErased (last (opening credit names) es) (last (last (opening credit names) es) later)
+pub run_stays_erased : (credit : CreditSpec) (names : List (List ℕ)) (es later : List Act) → AreOpeningNames names → IsRun (opening credit names) es → IsRun (last (opening credit names) es) later → StaysErased (last (opening credit names) es) (last (last (opening credit names) es) later)
 run_stays_erased credit names es later are r k = record {
   erased = λ p some lt er. let s = settled p some lt er in (on p s.on some lt er s.all).erased;
   agrees = λ p n some lt er a. settled_agrees w2 p n good2 ends2 (on p n some lt er (agrees_settled w p n a (settled p some lt er) good)).all;

@@ -1,5 +1,6 @@
 -- What was last sent over a current link that holds no packet, its receiver has; and so it has what it took last there.
 use Rattle.std.proofs.Common.{◌≡◌, ◌≢◌, ℕ, ◌+◌, ◌<◌, ◌≤◌, Bool, true, false, cond, not, nat_eq, List, [], ◌∷◌, ◌++◌, length, drop, get_or, set, Some, None, is_some, refl, sym, ap, subst, ◌∙◌, ⊎_elim, arith}
+use Rattle.queue_mirror.specs.Mirror.{MirrorState}
 use Rattle.std.proofs.lemmas.Bool.{and_parts, false≢true, cases_eq, cases_lt, not-true}
 use Rattle.std.proofs.lemmas.List.{length-set, length_push, get_or-set_other}
 use Rattle.std.proofs.lemmas.List.Quantifiers.{position-Some}
@@ -14,8 +15,9 @@ use Rattle.ring_rules.specs.Rows.{Row, no_row, published_row, taken_row}
 use Rattle.ring_rules.specs.Refusal.{is_empty}
 use Rattle.ring_rules.specs.View.{between}
 use Rattle.ring_rules.specs.Machine.{Up, Moved, Halted, Packet, Member, Link, World, no_packet, no_link, no_member, row_at, numbers_at, member_at, link_at, view_in, newest, runs, runs_phase, is_kept, oldest, Ending}
-use Rattle.ring_rules.specs.Step.{size, log_of, put_on, pushed, next_packet, gain_on, publish_at, published, take_from, taker, begun, begun_row, begin_from, is_owned, current_is, with_current, leave_link, stop_at, stopped, end_out, ended, with_member, with_link, with_view, look_at, moved_to, open_to, opened_link, opening_link, popped, joiner, admitted_view, come_to, opening}
-use Rattle.ring_rules.specs.Event.{Event, is_at_door, at_door, refreshed, erased_view, refusal, effect, IsRun, last, synced_view}
+use Rattle.ring_rules.specs.Step.{copied, copied_at, size, log_of, put_on, pushed, next_packet, gain_on, publish_at, published, take_from, taker, begun, begun_row, begin_from, is_owned, current_is, with_current, leave_link, stop_at, stopped, end_out, ended, with_member, with_link, with_view, look_at, moved_to, open_to, opened_link, opening_link, popped, joiner, admitted_view, come_to, opening}
+use Rattle.ring_rules.specs.Event.{is_at_door, at_door, refreshed, erased_view, synced_view}
+use Rattle.ring_rules.specs.Act.{Act, refusal, effect, IsRun, last}
 use Rattle.ring_rules.specs.Lawful.{RowIsWithin, NumbersAreWithin}
 use Rattle.ring_rules.specs.Compact.{Has}
 use Rattle.ring_rules.proofs.events.WhatRefuses.{MayTake, MayBegin}
@@ -28,15 +30,15 @@ use Rattle.ring_rules.proofs.invariants.Kept.{Inv}
 use Rattle.ring_rules.proofs.invariants.KeptCast.{gained_rows}
 use Rattle.ring_rules.proofs.invariants.KeptBegin.{begin_row}
 use Rattle.ring_rules.proofs.invariants.KeptAdmit.{CanJoin}
-use Rattle.ring_rules.proofs.invariants.Happens.{IsGood, opening_good, can_join, door_pickable, mark_good, run_events, erase_good, sync_there, sync_good}
-use Rattle.ring_rules.proofs.events.Cases.{each_event}
+use Rattle.ring_rules.proofs.invariants.Happens.{IsGood, opening_good, can_join, door_pickable, mark_good, run_acts, erase_good, sync_there, sync_good}
+use Rattle.ring_rules.proofs.events.Cases.{each_act}
 use Rattle.ring_rules.proofs.events.First.{first_row, first_link}
 use Rattle.ring_rules.proofs.runs.Lines.{IsChain, HasFirst, LinesRight, SameLine, Still}
-use Rattle.ring_rules.proofs.runs.LinesKept.{OwnedStays, TakesWithin, takes_within, cast_still, gain_still, end_still, stop_still, leave_still, look_still, out_still, mark_still, owned_stays, come_owned, come_within, come_was, StandsAs, pop_takes, popped_at, refresh_takes, held_lt}
+use Rattle.ring_rules.proofs.runs.LinesKept.{copied_still, OwnedStays, TakesWithin, takes_within, cast_still, gain_still, end_still, stop_still, leave_still, look_still, out_still, mark_still, owned_stays, come_owned, come_within, come_was, StandsAs, pop_takes, popped_at, refresh_takes, held_lt}
 use Rattle.ring_rules.proofs.events.Leaves.{come_each}
-use Rattle.ring_rules.proofs.runs.NoGap.{event_lines, reached_lines}
-use Rattle.ring_rules.proofs.runs.OwnLogs.{IsLogged, opening_logged, event_logged, oldest_within}
-use Rattle.ring_rules.proofs.invariants.Moves.{event_moves}
+use Rattle.ring_rules.proofs.runs.NoGap.{act_lines, reached_lines}
+use Rattle.ring_rules.proofs.runs.OwnLogs.{IsLogged, opening_logged, act_logged, oldest_within}
+use Rattle.ring_rules.proofs.invariants.Moves.{act_moves}
 use Rattle.ring_rules.proofs.invariants.Beside.{IsBeside, move_beside, opening_beside}
 
 -- the two packets of a link of which this is so: the one put last and the one taken last
@@ -93,6 +95,12 @@ no_rows : (w w' : World) → w'.members ≡ w.members → StillHas w w'
 no_rows w w' e y z p k h = subst (λ ms. Has (is_owned (view_in w (member_at w y).version) y z p) (row_at (get_or ms y no_member) p) k) (sym e) h
 
 -- ---- single events
+
+-- a copy that is done writes nothing that anybody got
+copied_rows : (w : World) (x : ℕ) (m : MirrorState) → x < size w → StillHas w (copied_at w x m)
+copied_rows w x m lt y z p k =
+    at_set (λ i a. Has (is_owned (view_in w (member_at w i).version) i z p) (row_at (member_at w i) p) k → Has (is_owned (view_in w (member_at w i).version) i z p) (row_at a p) k) w.members x y (copied m (member_at w x)) no_member lt
+    (λ h. h) (λ _ h. h)
 
 -- a publish writes what its publisher got of itself alone
 cast_rows : (w : World) (x : ℕ) (m : Message) → x < size w → StillHas w (publish_at w x m)
@@ -330,8 +338,8 @@ record IsTold (t : Last) (w : World) : Type 0 where
   pub has : HasSaid t w
 
 -- one event more
-event_has : (t : Last) (w : World) (e : Event) → IsGood w → refusal w e ≡ None → IsTold t w → HasSaid t (effect w e)
-event_has t w e g r k = each_event (HasSaid t) w e g (record {
+act_has : (t : Last) (w : World) (e : Act) → IsGood w → refusal w e ≡ None → IsTold t w → HasSaid t (effect w e)
+act_has t w e g r k = each_act (HasSaid t) w e g (record {
   casts = λ x m u _. still_has t w (publish_at w x m) (cast_still w x m u.lt) (cast_rows w x m u.lt) k.has;
   puts = λ x o u out _. put_has t w x o (g.inv.linked.out_lt x o (ap runs_phase u.up) out) k.has;
   takes = λ y s u m. take_has t w y s m g.inv k.lines k.has;
@@ -348,15 +356,15 @@ event_has t w e g r k = each_event (HasSaid t) w e g (record {
       refresh_has t w x v u.lt m.later (owned_stays w x v g rx m.later m.upto) (takes_within w g.inv) (λ o e2. g.inv.linked.out_lt x o rx e2) k.has;
   picks = λ y s u none door upto. pick_has t w y s u.lt (ap runs_phase u.up) (ap is_some none) door ((door_pickable w y s door upto g).kept_yet s refl) k.lines k.has;
   refuses = k.has;
-}) r
+}) (λ x m u _. still_has t w (copied_at w x m) (copied_still w x m u.lt) (copied_rows w x m u.lt) k.has) r
 
 -- every event of a run
-run_told : (t : Last) (w : World) (es : List Event) → IsGood w → IsRun w es → IsTold t w → IsTold t (last w es)
-run_told t = run_events (IsTold t) (λ w e g r k. record {
-  logged = event_logged w e g r k.logged;
-  beside = event_moves IsGood IsBeside move_beside w e g g r k.beside;
-  lines = event_lines w e g r k.logged k.lines;
-  has = event_has t w e g r k;
+run_told : (t : Last) (w : World) (es : List Act) → IsGood w → IsRun w es → IsTold t w → IsTold t (last w es)
+run_told t = run_acts (IsTold t) (λ w e g r k. record {
+  logged = act_logged w e g r k.logged;
+  beside = act_moves IsGood IsBeside move_beside w e g g r k.beside;
+  lines = act_lines w e g r k.logged k.lines;
+  has = act_has t w e g r k;
 })
 
 -- nobody knows anything, and nothing was sent
@@ -380,7 +388,7 @@ opening_has t credit names y s p r e l tells =
     zeros false = record { got = refl; forgot = refl }
 
 -- so in every state of every run of a ring with these names
-pub reached_has : (t : Last) (credit : CreditSpec) (names : List (List ℕ)) (es : List Event) → AreOpeningNames names → IsRun (opening credit names) es → HasSaid t (last (opening credit names) es)
+pub reached_has : (t : Last) (credit : CreditSpec) (names : List (List ℕ)) (es : List Act) → AreOpeningNames names → IsRun (opening credit names) es → HasSaid t (last (opening credit names) es)
 reached_has t credit names es are r = (run_told t (opening credit names) es (opening_good credit names are) r (record {
   logged = opening_logged credit names;
   beside = opening_beside credit names;

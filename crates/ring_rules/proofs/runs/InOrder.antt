@@ -13,13 +13,13 @@ use Rattle.group_view.proofs.Lists.{between_joined}
 use Rattle.ring_rules.specs.Machine.{World, no_member, row_at, numbers_at, member_at, link_at, view_in, oldest}
 use Rattle.ring_rules.specs.Step.{size, log_of, put_on, gain_on, published, publish_at, is_owned, taker, take_from, stopped, stop_at, open_to, opening, begun_row, begun, begin_from, come_to}
 use Rattle.ring_rules.proofs.events.WhatRefuses.{MayTake}
-use Rattle.ring_rules.specs.Event.{Event, IsRun, refusal, effect, last}
+use Rattle.ring_rules.specs.Act.{Act, refusal, effect, IsRun, last}
 use Rattle.ring_rules.specs.Lawful.{row_of, NumbersAreWithin, NeverFalls, HearsInOrder, HearsWhatFollows}
 use Rattle.ring_rules.proofs.rings.Lists.{at_set}
 use Rattle.ring_rules.proofs.walks.Take.{taken_packet}
-use Rattle.ring_rules.proofs.invariants.Happens.{IsGood, opening_good, event_good, reached_good}
+use Rattle.ring_rules.proofs.invariants.Happens.{IsGood, opening_good, act_good, reached_good}
 use Rattle.ring_rules.proofs.events.First.{first_row}
-use Rattle.ring_rules.proofs.events.Parts.{Part, cast_part, put_part, take_part, gain_part, stop_part, open_part, still_part, event_keeps, IsSameRows, member_same, begin_part, come_part, KnowsNothing, links_same}
+use Rattle.ring_rules.proofs.events.Parts.{Part, cast_part, put_part, take_part, gain_part, stop_part, open_part, still_part, act_keeps, IsSameRows, member_same, begin_part, come_part, KnowsNothing, links_same}
 use Rattle.ring_rules.proofs.runs.OwnLogs.{IsLogged, oldest_within, taker_row, take_log, cast_log, cast_log_other, published_at, part_logged, opening_logged, begin_log, begun_at, come_log, joiner_rows}
 use Rattle.ring_rules.proofs.runs.NeverFalls.{taker_rises_all, open_same, run_never_falls}
 
@@ -185,14 +185,14 @@ part_heard w w' k h = record { logged = part_logged IsGapless w w' k h.logged; o
 -- ---- events and runs, where no take has a gap
 
 -- one event
-pub event_heard : (w : World) (e : Event) → IsGood w → HasNoGap w → refusal w e ≡ None → IsHeard w → IsHeard (effect w e)
-event_heard w e g gap r h = event_keeps IsGapless IsHeard part_heard w e g (record { good = g; no_gap = gap }) r h
+pub act_heard : (w : World) (e : Act) → IsGood w → HasNoGap w → refusal w e ≡ None → IsHeard w → IsHeard (effect w e)
+act_heard w e g gap r h = act_keeps IsGapless IsHeard part_heard w e g (record { good = g; no_gap = gap }) r h
 
 -- all events of a run
-pub run_heard : (w : World) (es : List Event) → IsGood w → ((later : List Event) → IsRun w later → HasNoGap (last w later)) → IsRun w es → IsHeard w → IsHeard (last w es)
+pub run_heard : (w : World) (es : List Act) → IsGood w → ((later : List Act) → IsRun w later → HasNoGap (last w later)) → IsRun w es → IsHeard w → IsHeard (last w es)
 run_heard w [] g gap r h = h
 run_heard w (e ∷ es) g gap r h =
-    run_heard (effect w e) es (event_good w e g r.0) (λ later k. gap (e ∷ later) (r.0, k)) r.1 (event_heard w e g (gap [] tt) r.0 h)
+    run_heard (effect w e) es (act_good w e g r.0) (λ later k. gap (e ∷ later) (r.0, k)) r.1 (act_heard w e g (gap [] tt) r.0 h)
 
 -- the opening
 pub opening_heard : (credit : CreditSpec) (names : List (List ℕ)) → IsHeard (opening credit names)
@@ -202,18 +202,18 @@ opening_heard credit names = record {
 }
 
 -- in every state of every run each member hears in order
-pub run_hears_in_order : (credit : CreditSpec) (names : List (List ℕ)) (es : List Event) → AreOpeningNames names → ((later : List Event) → IsRun (opening credit names) later → HasNoGap (last (opening credit names) later)) → IsRun (opening credit names) es → HearsInOrder (last (opening credit names) es)
+pub run_hears_in_order : (credit : CreditSpec) (names : List (List ℕ)) (es : List Act) → AreOpeningNames names → ((later : List Act) → IsRun (opening credit names) later → HasNoGap (last (opening credit names) later)) → IsRun (opening credit names) es → HearsInOrder (last (opening credit names) es)
 run_hears_in_order credit names es are gap r q p = ((run_heard (opening credit names) es (opening_good credit names are) gap r (opening_heard credit names)).order q p).heard
 
 -- ---- what follows
 
 -- a run and then another
-pub last_append : (w : World) (es more : List Event) → last w (es ++ more) ≡ last (last w es) more
+pub last_append : (w : World) (es more : List Act) → last w (es ++ more) ≡ last (last w es) more
 last_append w [] more = refl
 last_append w (e ∷ es) more = last_append (effect w e) es more
 
 -- both are one
-pub run_append : (w : World) (es more : List Event) → IsRun w es → IsRun (last w es) more → IsRun w (es ++ more)
+pub run_append : (w : World) (es more : List Act) → IsRun w es → IsRun (last w es) more → IsRun w (es ++ more)
 run_append w [] more r k = k
 run_append w (e ∷ es) more r k = (r.0, run_append (effect w e) es more r.1 k)
 
@@ -223,7 +223,7 @@ follows_heard w w' h h' f q p =
     heard_later (row_of w q p).heard (row_of w' q p).heard (log_of w p) (log_of w' p) (row_of w q p).base (row_of w' q p).base (row_of w q p).got (row_of w' q p).got (h.order q p).heard (h'.order q p).heard (h.order q p).base (h'.order q p).base (h.logged.within.rows q p).got (h'.logged.within.rows q p).got (f.logs p) (f.got q p) (f.base q p)
 
 -- and what a member hears later is what follows in the log
-pub run_hears_what_follows : (credit : CreditSpec) (names : List (List ℕ)) (es later : List Event) → AreOpeningNames names → ((later : List Event) → IsRun (opening credit names) later → HasNoGap (last (opening credit names) later)) → IsRun (opening credit names) es → IsRun (last (opening credit names) es) later → HearsWhatFollows (last (opening credit names) es) (last (last (opening credit names) es) later)
+pub run_hears_what_follows : (credit : CreditSpec) (names : List (List ℕ)) (es later : List Act) → AreOpeningNames names → ((later : List Act) → IsRun (opening credit names) later → HasNoGap (last (opening credit names) later)) → IsRun (opening credit names) es → IsRun (last (opening credit names) es) later → HearsWhatFollows (last (opening credit names) es) (last (last (opening credit names) es) later)
 run_hears_what_follows credit names es later are gap r k =
     let w : World = last (opening credit names) es in
     let now : IsHeard w = run_heard (opening credit names) es (opening_good credit names are) gap r (opening_heard credit names) in

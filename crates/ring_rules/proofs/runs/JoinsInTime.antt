@@ -10,8 +10,8 @@ use Rattle.group_view.specs.Change.{AreOpeningNames}
 use Rattle.ring_rules.specs.Refusal.{is_empty}
 use Rattle.ring_rules.specs.Rows.{Row, no_row, taken_row}
 use Rattle.ring_rules.specs.Machine.{Waiting, Up, World, Member, Link, no_member, no_link, no_packet, row_at, numbers_at, member_at, link_at, right, runs_phase, is_waiting, oldest}
-use Rattle.ring_rules.specs.Step.{size, log_of, pushed, popped, next_packet, published, taker, begun, begin_from, with_current, stopped, moved_to, with_member, with_link, look_at, opened_link, joiner, opening}
-use Rattle.ring_rules.specs.Event.{Event, IsRun, last}
+use Rattle.ring_rules.specs.Step.{copied, size, log_of, pushed, popped, next_packet, published, taker, begun, begin_from, with_current, stopped, moved_to, with_member, with_link, look_at, opened_link, joiner, opening}
+use Rattle.ring_rules.specs.Act.{Act, IsRun, last}
 use Rattle.ring_rules.specs.Lawful.{row_of, JoinsInTime}
 use Rattle.ring_rules.proofs.events.WhatRefuses.{MayBegin}
 use Rattle.ring_rules.proofs.rings.Lists.{at_set, get_or_beyond}
@@ -24,7 +24,7 @@ use Rattle.ring_rules.proofs.walks.Take.{row_at-taker}
 use Rattle.ring_rules.proofs.events.First.{first_row, first_none_waits}
 use Rattle.ring_rules.proofs.runs.OwnLogs.{IsLogged, joiner_rows, opening_logged, run_knowing, begun_at}
 use Rattle.ring_rules.proofs.invariants.Happens.{IsGood, opening_good}
-use Rattle.ring_rules.proofs.invariants.Moves.{Move, cast_move, put_move, take_move, begin_move, current_move, stop_move, way_move, look_move, open_move, mark_move, erase_move, sync_move, join_move, event_moves}
+use Rattle.ring_rules.proofs.invariants.Moves.{copy_move, Move, cast_move, put_move, take_move, begin_move, current_move, stop_move, way_move, look_move, open_move, mark_move, erase_move, sync_move, join_move, act_moves}
 
 -- ---- what changes nothing of it
 
@@ -179,6 +179,7 @@ move_stays w w' g (take_move y s m e) = once (subst (Alike w) (sym e) (record {
         by_own false = same_base refl refl
 move_stays w w' g (begin_move y s m e) = begins y s m e
 move_stays w w' g (current_move y c lt up k e) = once (subst (Alike w) (sym e) (set_same w y (with_current c (member_at w y)) lt (ap is_waiting up) (λ p. stays_kept (row_of w y p)) (omega arith)))
+move_stays w w' g (copy_move x m lt up e) = once (subst (Alike w) (sym e) (set_same w x (copied m (member_at w x)) lt (ap is_waiting up) (λ p. stays_kept (row_of w x p)) (omega arith)))
 move_stays w w' g (stop_move x lt rx e) = once (subst (Alike w) (sym e) (set_same w x (stopped (member_at w x)) lt refl (λ p. stays_kept (row_of w x p)) (omega arith)))
 move_stays w w' g (way_move s l lt k e) = once (subst (Alike w) (sym e) (link_same w s l lt (λ _. ap (λ ks. get_or ks 0 no_packet) k.packets) g.inv))
 move_stays w w' g (look_move x v m e) = once (subst (Alike w) (sym e) (set_same w x (moved_to w x v) m.is_member (ap is_waiting m.up) (λ p. stays_kept (row_of w x p)) (omega arith)))
@@ -229,6 +230,6 @@ opening_joins credit names = record {
 }
 
 -- in every state of every run
-pub run_joins_in_time : (credit : CreditSpec) (names : List (List ℕ)) (es : List Event) → AreOpeningNames names → IsRun (opening credit names) es → JoinsInTime (last (opening credit names) es)
+pub run_joins_in_time : (credit : CreditSpec) (names : List (List ℕ)) (es : List Act) → AreOpeningNames names → IsRun (opening credit names) es → JoinsInTime (last (opening credit names) es)
 run_joins_in_time credit names es are r =
-    run_knowing JoinsInTime (λ w e g q l h. event_moves IsHere JoinsInTime move_joins w e g (record { good = g; logged = l }) q h) (opening credit names) es (opening_good credit names are) r (opening_logged credit names) (opening_joins credit names)
+    run_knowing JoinsInTime (λ w e g q l h. act_moves IsHere JoinsInTime move_joins w e g (record { good = g; logged = l }) q h) (opening credit names) es (opening_good credit names are) r (opening_logged credit names) (opening_joins credit names)

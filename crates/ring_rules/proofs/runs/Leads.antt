@@ -9,7 +9,7 @@ use Rattle.promotion.specs.Elect.{elected, term_after, installed}
 use Rattle.ring_rules.proofs.invariants.Newest.{NewestAfter, newest_stays, newest_marked, newest_erased, newest_synced, newest_admitted, newest_after, move_more}
 use Rattle.ring_rules.specs.Machine.{World, view_in, newest}
 use Rattle.ring_rules.specs.Step.{size, admitted_view, opening}
-use Rattle.ring_rules.specs.Event.{Event, IsRun, last}
+use Rattle.ring_rules.specs.Act.{Act, IsRun, last}
 use Rattle.ring_rules.specs.Lawful.{LeadsOn, has_erased}
 use Rattle.ring_rules.proofs.invariants.Happens.{IsGood, reached_good}
 use Rattle.ring_rules.proofs.invariants.Moves.{Move, run_moves}
@@ -95,7 +95,7 @@ move_since w0 w w' g k h =
     either a b c (inr n) (inl f) = inr (f ∙ n)
 
 -- from each state of a run to each later one
-pub run_leads_on : (credit : CreditSpec) (names : List (List ℕ)) (es later : List Event) → AreOpeningNames names → IsRun (opening credit names) es → IsRun (last (opening credit names) es) later → LeadsOn (last (opening credit names) es) (last (last (opening credit names) es) later)
+pub run_leads_on : (credit : CreditSpec) (names : List (List ℕ)) (es later : List Act) → AreOpeningNames names → IsRun (opening credit names) es → IsRun (last (opening credit names) es) later → LeadsOn (last (opening credit names) es) (last (last (opening credit names) es) later)
 run_leads_on credit names es later are r k =
     let w : World = last (opening credit names) es in
     (run_moves (Since w) (move_since w) w later (reached_good credit names es are r) k (record {

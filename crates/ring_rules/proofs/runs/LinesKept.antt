@@ -1,5 +1,6 @@
 -- How the events keep where the packets of a link begin and end.
 use Rattle.std.proofs.Common.{◌≡◌, ◌≢◌, ℕ, ◌+◌, ◌<◌, ◌≤◌, Bool, true, false, cond, nat_eq, List, [], ◌∷◌, ◌++◌, length, drop, get_or, Option, Some, None, is_some, refl, sym, ap, subst, ◌∙◌, if◌then◌else◌, arith, ⊎_elim}
+use Rattle.queue_mirror.specs.Mirror.{MirrorState}
 use Rattle.std.proofs.lemmas.Bool.{false≢true, cases_lt}
 use Rattle.std.proofs.lemmas.List.{length-set, length_push, get_or_append_left}
 use Rattle.queue_core.specs.declared.message.Message.{Message}
@@ -9,7 +10,7 @@ use Rattle.group_view.specs.Since.{no_group, KeepsLeft}
 use Rattle.ring_rules.proofs.events.Composed.{end_composed}
 use Rattle.ring_rules.specs.View.{ids, right_of, between, left_by, left_of}
 use Rattle.ring_rules.specs.Machine.{Waiting, Up, Packet, Member, Ending, Moved, Halted, Link, World, no_link, no_member, no_sending, row_at, numbers_at, member_at, link_at, view_in, newest, runs, runs_phase, is_kept, oldest, Sending, left}
-use Rattle.ring_rules.specs.Step.{size, log_of, next_packet, pushed, popped, put_on, gain_on, publish_at, published, take_from, taker, is_owned, current_is, with_current, leave_link, finished, ended, stop_at, stopped, end_out, with_member, with_link, with_view, look_at, moved_to, kept_current, open_to, opened_link, begun, begin_from, joiner, admitted_view, come_to}
+use Rattle.ring_rules.specs.Step.{copied, copied_at, size, log_of, next_packet, pushed, popped, put_on, gain_on, publish_at, published, take_from, taker, is_owned, current_is, with_current, leave_link, finished, ended, stop_at, stopped, end_out, with_member, with_link, with_view, look_at, moved_to, kept_current, open_to, opened_link, begun, begin_from, joiner, admitted_view, come_to}
 use Rattle.ring_rules.specs.Rows.{taken_row, Row}
 use Rattle.ring_rules.proofs.events.WhatRefuses.{MayTake, MayBegin}
 use Rattle.ring_rules.specs.Event.{at_door, send_to, refreshed}
@@ -109,6 +110,10 @@ member_still w x m lt k = record {
 pub cast_still : (w : World) (x : ℕ) (m : Message) → x < size w → Still w (publish_at w x m)
 cast_still w x m lt = member_still w x (published x m (member_at w x)) lt
     (eases w x (published x m (member_at w x)) refl refl refl (λ p. gained_rows m (λ a b. a.got ≤ b.got) x p (member_at w x) (λ r. omega arith) (omega arith)))
+
+-- a copy that is done
+pub copied_still : (w : World) (x : ℕ) (m : MirrorState) → x < size w → Still w (copied_at w x m)
+copied_still w x m lt = member_still w x (copied m (member_at w x)) lt (eases w x (copied m (member_at w x)) refl refl refl (λ p. omega arith))
 
 -- a gain of credit
 pub gain_still : (w : World) (o : ℕ) → o < length w.links → Still w (gain_on w o)

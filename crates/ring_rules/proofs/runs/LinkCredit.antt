@@ -12,7 +12,7 @@ use Rattle.ring_rules.specs.Rows.{full_flow, regained}
 use Rattle.group_view.specs.Change.{AreOpeningNames}
 use Rattle.ring_rules.specs.Machine.{Packet, Link, World, no_link, no_sending, member_at, link_at}
 use Rattle.ring_rules.specs.Step.{next_packet, pushed, popped, take_from, begin_from, fresh_link, opened_link, open_to, with_link, opening, opening_link}
-use Rattle.ring_rules.specs.Event.{Event, IsRun, last}
+use Rattle.ring_rules.specs.Act.{Act, IsRun, last}
 use Rattle.ring_rules.specs.Lawful.{CreditIsKept, KeepsCredit}
 use Rattle.ring_rules.proofs.rings.Lists.{at_set, at_push}
 use Rattle.ring_rules.proofs.invariants.Happens.{IsGood, opening_good}
@@ -160,11 +160,11 @@ opening_credited credit names = record {
 }
 
 -- every state
-pub run_credited : (credit : CreditSpec) (names : List (List ℕ)) (es : List Event) → AreOpeningNames names → IsRun (opening credit names) es → IsCredited credit.initial credit.more (last (opening credit names) es)
+pub run_credited : (credit : CreditSpec) (names : List (List ℕ)) (es : List Act) → AreOpeningNames names → IsRun (opening credit names) es → IsCredited credit.initial credit.more (last (opening credit names) es)
 run_credited credit names es are r =
     run_keeps (IsCredited credit.initial credit.more) (part_credited credit.initial credit.more credit.positive credit.covered IsGood) (opening credit names) es (opening_good credit names are) r (opening_credited credit names)
 
 -- in every state of every run each link keeps the credit of the ring
-pub run_keeps_credit : (credit : CreditSpec) (names : List (List ℕ)) (es : List Event) → AreOpeningNames names → IsRun (opening credit names) es → KeepsCredit credit.initial (last (opening credit names) es)
+pub run_keeps_credit : (credit : CreditSpec) (names : List (List ℕ)) (es : List Act) → AreOpeningNames names → IsRun (opening credit names) es → KeepsCredit credit.initial (last (opening credit names) es)
 run_keeps_credit credit names es are r s sl =
     kept_credit credit.initial credit.more credit.positive credit.covered (link_at (last (opening credit names) es) s) ((run_credited credit names es are r).links s sl)

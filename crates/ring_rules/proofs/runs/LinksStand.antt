@@ -14,7 +14,7 @@ use Rattle.ring_rules.specs.Refusal.{is_empty}
 use Rattle.ring_rules.specs.View.{ids, is_live, between}
 use Rattle.ring_rules.specs.Machine.{Packet, Link, World, no_packet, row_at, numbers_at, member_at, link_at, view_in, newest, left, runs, is_kept, is_waiting, oldest}
 use Rattle.ring_rules.specs.Step.{size, opening}
-use Rattle.ring_rules.specs.Event.{Event, IsRun, last}
+use Rattle.ring_rules.specs.Act.{Act, IsRun, last}
 use Rattle.ring_rules.specs.OpenLinks.{version_of, since_in, comes_from_left, passes, is_place, is_current, is_door_link, is_open, packets_of, owner, number}
 use Rattle.ring_rules.specs.LinksStand.{ComesFromLeft, HasNeverSent, HavePeriods, BeginsNear, IsGone, LinksStand}
 use Rattle.ring_rules.proofs.invariants.Good.{Kept, kept_true}
@@ -247,7 +247,7 @@ links_stand w g ends lines holds turned never = record {
 }
 
 -- in every state of every run
-pub reached_links_stand : (credit : CreditSpec) (names : List (List ℕ)) (es : List Event) → AreOpeningNames names → IsRun (opening credit names) es → LinksStand (last (opening credit names) es)
+pub reached_links_stand : (credit : CreditSpec) (names : List (List ℕ)) (es : List Act) → AreOpeningNames names → IsRun (opening credit names) es → LinksStand (last (opening credit names) es)
 reached_links_stand credit names es are r =
     links_stand (last (opening credit names) es) (reached_good credit names es are r) (reached_ends credit names es are r) (reached_lines credit names es are r) (reached_holds credit names es are r) (reached_turned credit names es are r)
     (reached_never_sent credit names es are r)

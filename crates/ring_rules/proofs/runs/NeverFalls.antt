@@ -13,7 +13,7 @@ use Rattle.ring_rules.specs.OpenLinks.{NeverRises, number}
 use Rattle.ring_rules.proofs.walks.CountedWalk.{numbers, counted, only, no_but, is_early, round_of, retired_by, stopped_from, running_from, walk_over}
 use Rattle.ring_rules.specs.Step.{size, log_of, put_on, gain_on, published, publish_at, is_owned, taker, take_from, stopped, stop_at, opened_link, open_to, opening, begun, begin_from, joiner, come_to}
 use Rattle.ring_rules.proofs.events.WhatRefuses.{MayTake}
-use Rattle.ring_rules.specs.Event.{Event, IsRun, last}
+use Rattle.ring_rules.specs.Act.{Act, IsRun, last}
 use Rattle.ring_rules.specs.Lawful.{row_of, RowIsWithin, NeverFalls}
 use Rattle.ring_rules.proofs.events.Leaves.{with_opened, come_member}
 use Rattle.ring_rules.proofs.rings.Lists.{at_set, get_or_beyond}
@@ -286,7 +286,7 @@ pub part_later : (w0 w w' : World) → Part IsGood w w' → HasRisen w0 w → Ha
 part_later w0 w w' k h = record { falls = falls_after w0 w w' h.falls (part_rises w w' k h.logged); logged = part_logged IsGood w w' k h.logged }
 
 -- in every run, from every state to the next, and so to each later one
-pub run_never_falls : (credit : CreditSpec) (names : List (List ℕ)) (es later : List Event) → AreOpeningNames names → IsRun (opening credit names) es → IsRun (last (opening credit names) es) later → NeverFalls (last (opening credit names) es) (last (last (opening credit names) es) later)
+pub run_never_falls : (credit : CreditSpec) (names : List (List ℕ)) (es later : List Act) → AreOpeningNames names → IsRun (opening credit names) es → IsRun (last (opening credit names) es) later → NeverFalls (last (opening credit names) es) (last (last (opening credit names) es) later)
 run_never_falls credit names es later are r k =
     let w : World = last (opening credit names) es in
     (run_keeps (HasRisen w) (part_later w) w later (reached_good credit names es are r) k

@@ -5,15 +5,16 @@ use Rattle.ring_names.specs.declared.numbers.CreditSpec.{CreditSpec}
 use Rattle.group_view.specs.Change.{AreOpeningNames, marked, opening as opening_group}
 use Rattle.ring_rules.specs.View.{left_of}
 use Rattle.ring_rules.specs.Machine.{Packet, World, no_packet, row_at, numbers_at, member_at, link_at, view_in, left, runs, runs_phase, oldest, Waiting, Up, newest}
-use Rattle.ring_rules.specs.Step.{size, gain_on, publish_at, is_owned, leave_link, opening}
-use Rattle.ring_rules.specs.Event.{Event, refusal, effect, IsRun, last, erased_view, synced_view}
+use Rattle.ring_rules.specs.Step.{copied_at, size, gain_on, publish_at, is_owned, leave_link, opening}
+use Rattle.ring_rules.specs.Event.{erased_view, synced_view}
+use Rattle.ring_rules.specs.Act.{Act, refusal, effect, IsRun, last}
 use Rattle.ring_rules.specs.NoGap.{NoGapAtTake}
 use Rattle.ring_rules.proofs.events.First.{first_each, first_link_is}
 use Rattle.ring_rules.proofs.walks.Views.{left_is}
 use Rattle.ring_rules.proofs.invariants.Kept.{Inv}
 use Rattle.ring_rules.proofs.invariants.Happens.{IsGood, opening_good, can_join, mark_good, erase_good, sync_there, sync_good}
-use Rattle.ring_rules.proofs.events.Cases.{each_event}
-use Rattle.ring_rules.proofs.runs.LinesKept.{cast_still, gain_still, leave_still, stop_lines, put_lines, take_lines, pick_lines, begin_lines, takes_within, admit_lines, refresh_lines, owned_stays, mark_lines}
+use Rattle.ring_rules.proofs.events.Cases.{each_act}
+use Rattle.ring_rules.proofs.runs.LinesKept.{copied_still, cast_still, gain_still, leave_still, stop_lines, put_lines, take_lines, pick_lines, begin_lines, takes_within, admit_lines, refresh_lines, owned_stays, mark_lines}
 use Rattle.ring_rules.proofs.runs.OwnLogs.{IsLogged, opening_logged, run_knowing}
 use Rattle.ring_rules.proofs.runs.Lines.{IsChain, BeginsBy, LinesRight, lines_still}
 
@@ -48,8 +49,8 @@ module _ (credit : CreditSpec) (names : List (List ℕ)) where
 -- ---- events
 
 -- one event more
-pub event_lines : (w : World) (e : Event) → IsGood w → refusal w e ≡ None → IsLogged w → LinesRight w → LinesRight (effect w e)
-event_lines w e g r lg h = each_event LinesRight w e g (record {
+pub act_lines : (w : World) (e : Act) → IsGood w → refusal w e ≡ None → IsLogged w → LinesRight w → LinesRight (effect w e)
+act_lines w e g r lg h = each_act LinesRight w e g (record {
   casts = λ x m u _. lines_still w (publish_at w x m) (cast_still w x m u.lt) h;
   puts = λ x o u out k. put_lines w x o u.up out g.inv h;
   takes = λ y s u m. take_lines w y s m g.inv h;
@@ -66,13 +67,13 @@ event_lines w e g r lg h = each_event LinesRight w e g (record {
       refresh_lines w x v u.lt m.later (owned_stays w x v g rx m.later m.upto) (takes_within w g.inv) (λ o e2. g.inv.linked.out_lt x o rx e2) h;
   picks = λ y s u none door upto. pick_lines w y s u.lt u.up (ap is_some none) door upto g h;
   refuses = h;
-}) r
+}) (λ x m u _. lines_still w (copied_at w x m) (copied_still w x m u.lt) h) r
 
 -- so in every state of every run of a ring with these names
-pub reached_lines : (credit : CreditSpec) (names : List (List ℕ)) (es : List Event) → AreOpeningNames names → IsRun (opening credit names) es → LinesRight (last (opening credit names) es)
+pub reached_lines : (credit : CreditSpec) (names : List (List ℕ)) (es : List Act) → AreOpeningNames names → IsRun (opening credit names) es → LinesRight (last (opening credit names) es)
 reached_lines credit names es are r =
     let good : IsGood (opening credit names) = opening_good credit names are in
-    run_knowing LinesRight event_lines (opening credit names) es good r (opening_logged credit names) (first_lines credit names good.inv)
+    run_knowing LinesRight act_lines (opening credit names) es good r (opening_logged credit names) (first_lines credit names good.inv)
 
 -- ---- no gap
 
@@ -89,5 +90,5 @@ pub lines_no_gap : (w : World) → LinesRight w → NoGapAtTake w
 lines_no_gap w h by y s p id up c may some l own = no_gap w y s p h up c some l own
 
 -- in every state of every run no take leaves a gap
-pub no_gap_in_runs : (credit : CreditSpec) (names : List (List ℕ)) (es : List Event) → AreOpeningNames names → IsRun (opening credit names) es → NoGapAtTake (last (opening credit names) es)
+pub no_gap_in_runs : (credit : CreditSpec) (names : List (List ℕ)) (es : List Act) → AreOpeningNames names → IsRun (opening credit names) es → NoGapAtTake (last (opening credit names) es)
 no_gap_in_runs credit names es are r = lines_no_gap (last (opening credit names) es) (reached_lines credit names es are r)

@@ -10,16 +10,16 @@ use Rattle.ring_rules.specs.Rows.{Row, no_row, no_numbers, published_row, next_n
 use Rattle.group_view.specs.Change.{AreOpeningNames}
 use Rattle.ring_rules.specs.Machine.{Packet, Member, Sending, Link, World, no_link, no_member, no_sending, no_packet, row_at, numbers_at, member_at, link_at, view_in}
 use Rattle.ring_rules.specs.Step.{size, log_of, next_lines, next_packet, pushed, popped, put_on, gain_on, published, publish_at, is_owned, taker, take_from, stopped, stop_at, opened_link, open_to, opening, begun_row, begun, begin_from, joiner, come_to, with_link, with_member}
-use Rattle.ring_rules.specs.Event.{Event, refusal, effect, IsRun, last}
+use Rattle.ring_rules.specs.Act.{Act, refusal, effect, IsRun, last}
 use Rattle.ring_rules.specs.Lawful.{row_of, HasOwnLog, RowIsWithin, NumbersAreWithin, PacketsAreWithin, StaysWithinLogs}
 use Rattle.ring_rules.proofs.events.Leaves.{with_opened, come_member}
 use Rattle.ring_rules.proofs.rings.Lists.{at_set, at_push, get_or_beyond}
 use Rattle.group_view.proofs.Rings.{nat_eq-same}
 use Rattle.ring_rules.proofs.walks.Take.{row_at-taker, taken_packet}
 use Rattle.ring_rules.proofs.invariants.KeptBegin.{begin_row, begin_none}
-use Rattle.ring_rules.proofs.invariants.Happens.{IsGood, opening_good, run_events}
+use Rattle.ring_rules.proofs.invariants.Happens.{IsGood, opening_good, run_acts}
 use Rattle.ring_rules.proofs.events.First.{first_link, first_size, first_row, first_log, first_at}
-use Rattle.ring_rules.proofs.events.Parts.{event_keeps, IsSameRows, links_same, member_same, IsStill, Part, cast_part, put_part, take_part, gain_part, stop_part, open_part, still_part, member_still, run_keeps, begin_part, come_part, KnowsNothing}
+use Rattle.ring_rules.proofs.events.Parts.{act_keeps, IsSameRows, links_same, member_same, IsStill, Part, cast_part, put_part, take_part, gain_part, stop_part, open_part, still_part, member_still, run_keeps, begin_part, come_part, KnowsNothing}
 
 -- each member has received its whole own log, whether it runs or not
 abbrev pub HasOwnLogs : World → Type 0
@@ -373,17 +373,17 @@ part_logged G w w' (open_part x z e) h = subst IsLogged (sym e) (open_logged w x
 part_logged G w w' (still_part k) h = still_logged w w' k h
 
 -- one event more
-pub event_logged : (w : World) (e : Event) → IsGood w → refusal w e ≡ None → IsLogged w → IsLogged (effect w e)
-event_logged w e g r h = event_keeps IsGood IsLogged (part_logged IsGood) w e g g r h
+pub act_logged : (w : World) (e : Act) → IsGood w → refusal w e ≡ None → IsLogged w → IsLogged (effect w e)
+act_logged w e g r h = act_keeps IsGood IsLogged (part_logged IsGood) w e g g r h
 
 -- what each event keeps where the logs are known, every run keeps
 record IsKnown (P : World → Type 0) (w : World) : Type 0 where
   pub logged : IsLogged w
   pub holds : P w
 
-pub run_knowing : (P : World → Type 0) → ((w : World) (e : Event) → IsGood w → refusal w e ≡ None → IsLogged w → P w → P (effect w e)) → (w : World) (es : List Event) → IsGood w → IsRun w es → IsLogged w → P w → P (last w es)
+pub run_knowing : (P : World → Type 0) → ((w : World) (e : Act) → IsGood w → refusal w e ≡ None → IsLogged w → P w → P (effect w e)) → (w : World) (es : List Act) → IsGood w → IsRun w es → IsLogged w → P w → P (last w es)
 run_knowing P keeps w es g r l h =
-    (run_events (IsKnown P) (λ v e gv q k. record { logged = event_logged v e gv q k.logged; holds = keeps v e gv q k.logged k.holds }) w es g r (record { logged = l; holds = h })).holds
+    (run_acts (IsKnown P) (λ v e gv q k. record { logged = act_logged v e gv q k.logged; holds = keeps v e gv q k.logged k.holds }) w es g r (record { logged = l; holds = h })).holds
 
 -- ---- the opening, and every state of every run
 
@@ -405,13 +405,13 @@ opening_logged credit names = record {
 }
 
 -- every state
-pub run_logged : (credit : CreditSpec) (names : List (List ℕ)) (es : List Event) → AreOpeningNames names → IsRun (opening credit names) es → IsLogged (last (opening credit names) es)
+pub run_logged : (credit : CreditSpec) (names : List (List ℕ)) (es : List Act) → AreOpeningNames names → IsRun (opening credit names) es → IsLogged (last (opening credit names) es)
 run_logged credit names es are r = run_keeps IsLogged (part_logged IsGood) (opening credit names) es (opening_good credit names are) r (opening_logged credit names)
 
 -- in every state of every run a running publisher has its whole own log
-pub run_has_own_log : (credit : CreditSpec) (names : List (List ℕ)) (es : List Event) → AreOpeningNames names → IsRun (opening credit names) es → HasOwnLog (last (opening credit names) es)
+pub run_has_own_log : (credit : CreditSpec) (names : List (List ℕ)) (es : List Act) → AreOpeningNames names → IsRun (opening credit names) es → HasOwnLog (last (opening credit names) es)
 run_has_own_log credit names es are r = λ p _. (run_logged credit names es are r).own p
 
 -- and no number is greater than the length of its origin's log
-pub run_stays_within_logs : (credit : CreditSpec) (names : List (List ℕ)) (es : List Event) → AreOpeningNames names → IsRun (opening credit names) es → StaysWithinLogs (last (opening credit names) es)
+pub run_stays_within_logs : (credit : CreditSpec) (names : List (List ℕ)) (es : List Act) → AreOpeningNames names → IsRun (opening credit names) es → StaysWithinLogs (last (opening credit names) es)
 run_stays_within_logs credit names es are r = (run_logged credit names es are r).within

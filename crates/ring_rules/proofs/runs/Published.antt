@@ -1,5 +1,6 @@
 -- A member's log is what its casts have published, in their order.
 use Rattle.std.proofs.Common.{◌≡◌, ℕ, ◌+◌, ◌<◌, ◌≤◌, Bool, true, false, List, [], ◌∷◌, ◌++◌, length, drop, map, bytes_eq, Option, Some, None, if◌then◌else◌, refl, sym, ap, subst, ◌∙◌, arith}
+use Rattle.ring_rules.specs.Act.{act_of}
 use Rattle.std.specs.Prelude.{option_map, position}
 use Rattle.std.proofs.lemmas.Bool.{false≢true}
 use Rattle.std.proofs.lemmas.List.{append-nil, append_assoc, map-append, length-set, length_push, get_or-drop, get_or_append_left}
@@ -23,8 +24,8 @@ use Rattle.ring_rules.proofs.events.Enabled.{up_none}
 use Rattle.ring_rules.proofs.events.Leaves.{member_leaves, with_opened, come_each}
 use Rattle.ring_rules.proofs.rings.Lists.{get_or_beyond}
 use Rattle.ring_rules.proofs.events.Composed.{end_composed, refresh_composed}
-use Rattle.ring_rules.proofs.invariants.Happens.{IsGood, event_good}
-use Rattle.ring_rules.proofs.invariants.Named.{AreNamed, event_named, named_found}
+use Rattle.ring_rules.proofs.invariants.Happens.{IsGood, act_good}
+use Rattle.ring_rules.proofs.invariants.Named.{AreNamed, act_named, named_found}
 use Rattle.ring_rules.proofs.runs.OwnLogs.{cast_log, cast_log_other}
 
 -- ---- an event that publishes nothing
@@ -50,7 +51,7 @@ then_keep a b c h k = record {
 }
 
 -- one member is written
-write_keeps : (w : World) (x : ℕ) (y : Member) → y.name ≡ (member_at w x).name → y.log ≡ (member_at w x).log → y.told ≡ (member_at w x).told → y.started ≡ (member_at w x).started → KeepsLogs w (with_member w x y)
+pub write_keeps : (w : World) (x : ℕ) (y : Member) → y.name ≡ (member_at w x).name → y.log ≡ (member_at w x).log → y.told ≡ (member_at w x).told → y.started ≡ (member_at w x).started → KeepsLogs w (with_member w x y)
 write_keeps w x y name log told started = record {
   many = omega (arith, length-set w.members x y);
   name = λ q lt. member_leaves (λ _ a b. b.name ≡ a.name) w x y name (λ _. refl) q;
@@ -193,7 +194,7 @@ pub run_grows : (w : World) (es : List Event) (x : ℕ) → IsGood w → AreName
 run_grows w [] x g named r some lt = sym (append-nil (map told_of (log_of w x)))
 run_grows w (e ∷ es) x g named r some lt =
     let step = event_grows w e x named r.0 some lt in
-    run_grows (effect w e) es x (event_good w e g r.0) (event_named w e g r.0 named) r.1 some (omega (arith, lt, step.many))
+    run_grows (effect w e) es x (act_good w (act_of e) g r.0) (act_named w (act_of e) g r.0 named) r.1 some (omega (arith, lt, step.many))
     ∙ ap (λ n. map told_of (log_of (effect w e) x) ++ published_in n es) step.name
     ∙ ap (λ ms. ms ++ published_in (member_at w x).name es) step.log
     ∙ append_assoc (map told_of (log_of w x)) (published_by (member_at w x).name e) (published_in (member_at w x).name es)

@@ -11,14 +11,15 @@ use Rattle.group_view.specs.View.{Group}
 use Rattle.group_view.specs.Change.{marked}
 use Rattle.ring_rules.specs.View.{right_of}
 use Rattle.ring_rules.specs.Machine.{Phase, Waiting, Up, Stopped, Packet, Member, Ending, Moved, Halted, Link, World, no_link, no_member, member_at, link_at, view_in, newest, runs, runs_phase, oldest}
-use Rattle.ring_rules.specs.Step.{size, published, pushed, popped, next_packet, put_on, gain_on, taker, begun, current_is, with_current, leave_link, finished, ended, ended_so, stop_at, stopped, end_out, with_member, with_link, with_view, look_at, moved_to, kept_current, open_to, opened_link, opening_link, opening, come_to}
-use Rattle.ring_rules.specs.Event.{Event, end_refusal, holds_nothing, at_door, send_to, refreshed, refusal, taken_by, effect, IsRun, last, erased_view, synced_view}
+use Rattle.ring_rules.specs.Step.{copied, size, published, pushed, popped, next_packet, put_on, gain_on, taker, begun, current_is, with_current, leave_link, finished, ended, ended_so, stop_at, stopped, end_out, with_member, with_link, with_view, look_at, moved_to, kept_current, open_to, opened_link, opening_link, opening, come_to}
+use Rattle.ring_rules.specs.Event.{end_refusal, holds_nothing, at_door, send_to, refreshed, taken_by, erased_view, synced_view}
+use Rattle.ring_rules.specs.Act.{Act, refusal, effect, IsRun, last}
 use Rattle.ring_rules.proofs.rings.Lists.{at_set, at_push, get_or_beyond}
 use Rattle.ring_rules.proofs.invariants.Kept.{Inv}
 use Rattle.ring_rules.proofs.invariants.Opening.{opening_inv}
 use Rattle.ring_rules.proofs.events.Refusals.{none_of, refuse_none, open_after_end}
-use Rattle.ring_rules.proofs.events.Cases.{each_event}
-use Rattle.ring_rules.proofs.invariants.Happens.{IsGood, run_events, can_join, admit_composed, joined_links}
+use Rattle.ring_rules.proofs.events.Cases.{each_act}
+use Rattle.ring_rules.proofs.invariants.Happens.{IsGood, run_acts, can_join, admit_composed, joined_links}
 use Rattle.ring_rules.proofs.invariants.FromLeft.{found_at_door}
 use Rattle.ring_rules.proofs.invariants.KeptAdmit.{CanJoin, joined_state, join_member}
 
@@ -345,8 +346,8 @@ end_none w s h =
     (c.1, empty_is (link_at w s).packets c.0)
 
 -- one event more
-pub ends_step : (w : World) (e : Event) → IsGood w → refusal w e ≡ None → EndsRight w → EndsRight (effect w e)
-ends_step w e g r h = each_event EndsRight w e g (record {
+pub ends_step : (w : World) (e : Act) → IsGood w → refusal w e ≡ None → EndsRight w → EndsRight (effect w e)
+ends_step w e g r h = each_act EndsRight w e g (record {
   casts = λ x m u _. ends_same w x (published x m (member_at w x)) (ap runs_phase u.up) refl refl h;
   puts = λ x o u out k. ends_put w x o (ap runs_phase u.up) out h;
   takes = λ y s u m. ends_take w y s (ap runs_phase u.up) m.current h Up u.up;
@@ -361,11 +362,11 @@ ends_step w e g r h = each_event EndsRight w e g (record {
   refreshes = λ x v u m. ends_refresh w x v (ap runs_phase u.up) h;
   picks = λ y s u none e upto. ends_pick w y s (ap runs_phase u.up) e h;
   refuses = h;
-}) r
+}) (λ x m u _. ends_same w x (copied m (member_at w x)) (ap runs_phase u.up) refl refl h) r
 
 -- every state of every run
-pub ends_run : (w : World) (es : List Event) → IsGood w → IsRun w es → EndsRight w → EndsRight (last w es)
-ends_run = run_events EndsRight ends_step
+pub ends_run : (w : World) (es : List Act) → IsGood w → IsRun w es → EndsRight w → EndsRight (last w es)
+ends_run = run_acts EndsRight ends_step
 
 -- ---- the opening
 

@@ -6,15 +6,16 @@ use Rattle.group_view.specs.View.{Group}
 use Rattle.group_view.specs.Change.{marked}
 use Rattle.ring_rules.specs.View.{right_of}
 use Rattle.ring_rules.specs.Machine.{Member, Ending, Moved, Halted, Link, World, oldest, member_at, link_at, view_in, newest, left, is_kept, no_member}
-use Rattle.ring_rules.specs.Step.{begun, begin_from, published, pushed, popped, next_packet, taker, take_from, current_is, with_current, leave_link, finished, ended, stop_at, stopped, end_out, with_member, with_link, with_view, look_at, moved_to, open_to, opened_link, size, admitted_view, come_to}
-use Rattle.ring_rules.specs.Event.{Event, refreshed, refusal, effect, erased_view, synced_view}
+use Rattle.ring_rules.specs.Step.{copied, begun, begin_from, published, pushed, popped, next_packet, taker, take_from, current_is, with_current, leave_link, finished, ended, stop_at, stopped, end_out, with_member, with_link, with_view, look_at, moved_to, open_to, opened_link, size, admitted_view, come_to}
+use Rattle.ring_rules.specs.Event.{refreshed, erased_view, synced_view}
+use Rattle.ring_rules.specs.Act.{Act, refusal, effect}
 use Rattle.ring_rules.specs.OpenLinks.{version_of, passes}
 use Rattle.ring_rules.proofs.events.Leaves.{come_member, member_leaves, link_leaves, with_opened, new_link_leaves}
 use Rattle.ring_rules.proofs.rings.Lists.{get_or_beyond}
 use Rattle.ring_rules.proofs.invariants.Good.{Kept, kept_true, true_kept}
 use Rattle.ring_rules.proofs.invariants.Shape.{SameEnds}
 use Rattle.ring_rules.proofs.walks.Views.{left_is, view_old}
-use Rattle.ring_rules.proofs.events.Cases.{each_event}
+use Rattle.ring_rules.proofs.events.Cases.{each_act}
 use Rattle.ring_rules.proofs.events.Composed.{end_composed, refresh_composed}
 use Rattle.ring_rules.proofs.invariants.Happens.{IsGood}
 use Rattle.ring_rules.proofs.walks.OpenWalk.{passes_is}
@@ -50,7 +51,7 @@ later_then u v w a b = record {
 }
 
 -- a member is written
-later_member : (w : World) (x : ℕ) (y : Member) → version_of w x ≤ y.version → IsLater w (with_member w x y)
+pub later_member : (w : World) (x : ℕ) (y : Member) → version_of w x ≤ y.version → IsLater w (with_member w x y)
 later_member w x y le = record {
   many = omega arith;
   views = λ u l. refl;
@@ -128,8 +129,8 @@ later_newer : (w : World) (x : ℕ) (v : Group) → IsGood w → IsLater w (refr
 later_newer w x v h = later_then w (with_view w v) (refreshed (with_view w v) x (newest w + 1)) (later_view w v) (later_refresh (with_view w v) x (newest w + 1) (omega (arith, h.inv.is_ring.held x)))
 
 -- one event more
-pub event_later : (w : World) (e : Event) → IsGood w → refusal w e ≡ None → IsLater w (effect w e)
-event_later w e h = each_event (IsLater w) w e h (record {
+pub act_later : (w : World) (e : Act) → IsGood w → refusal w e ≡ None → IsLater w (effect w e)
+act_later w e h = each_act (IsLater w) w e h (record {
   casts = λ x m u _. later_member w x (published x m (member_at w x)) (omega arith);
   puts = λ x o u out k. later_link w o (pushed (link_at w o) (next_packet (member_at w x) (link_at w o).sending)) (record { sender = refl; receiver = refl; opened = refl }) (λ b. b);
   takes = λ y s u m.
@@ -151,7 +152,7 @@ event_later w e h = each_event (IsLater w) w e h (record {
   refreshes = λ x v u m. later_refresh w x v m.later;
   picks = λ y s u none e upto. later_member w y (with_current (Some s) (member_at w y)) (omega arith);
   refuses = later_same w;
-})
+}) (λ x m u _. later_member w x (copied m (member_at w x)) (omega arith))
 
 -- ---- the test fails for good
 

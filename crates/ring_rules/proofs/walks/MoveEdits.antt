@@ -1,5 +1,5 @@
 -- What each step of an event does to the rounds of an origin that doesn't run.
-use Rattle.std.proofs.Common.{◌≡◌, ◌≢◌, ℕ, ◌<◌, ◌≤◌, false, Some, refl, sym, ap, subst, ◌∙◌, arith}
+use Rattle.std.proofs.Common.{true, ◌≡◌, ◌≢◌, ℕ, ◌<◌, ◌≤◌, false, Some, refl, sym, ap, subst, ◌∙◌, arith}
 use Rattle.std.proofs.lemmas.Bool.{false≢true}
 use Rattle.std.proofs.lemmas.List.{length-set}
 use Rattle.group_view.specs.Change.{marked}
@@ -10,7 +10,7 @@ use Rattle.ring_rules.specs.Event.{erased_view, synced_view}
 use Rattle.ring_rules.proofs.events.WhatRefuses.{MayLook}
 use Rattle.ring_rules.proofs.walks.Put.{runs_phase-Up}
 use Rattle.ring_rules.proofs.walks.Cast.{cast_closes}
-use Rattle.ring_rules.proofs.walks.Refresh.{blind, current_closes, look_closes}
+use Rattle.ring_rules.proofs.walks.Refresh.{settled_closes, blind, current_closes, look_closes}
 use Rattle.ring_rules.proofs.walks.Open.{with_opened}
 use Rattle.ring_rules.proofs.walks.Views.{marked_marks, erased_marks, view_closes}
 use Rattle.ring_rules.proofs.walks.Begin.{begin_closes}
@@ -24,7 +24,7 @@ use Rattle.ring_rules.proofs.invariants.Kept.{Inv}
 use Rattle.ring_rules.proofs.invariants.Happens.{IsGood, fresh_open}
 use Rattle.ring_rules.proofs.walks.Twice.{Edits, edits_then, closes_edits}
 use Rattle.ring_rules.proofs.invariants.TwiceKept.{put_edits, open_edits, take_edits, stop_edits}
-use Rattle.ring_rules.proofs.invariants.Moves.{Move, cast_move, put_move, take_move, begin_move, current_move, stop_move, way_move, look_move, open_move, mark_move, erase_move, sync_move, join_move}
+use Rattle.ring_rules.proofs.invariants.Moves.{copy_move, Move, cast_move, put_move, take_move, begin_move, current_move, stop_move, way_move, look_move, open_move, mark_move, erase_move, sync_move, join_move}
 
 -- a refresh that opens a link
 refresh_edits : (w : World) (x v p : ℕ) → MayLook w x v → ((o : ℕ) → (member_at w x).out ≡ Some o → (link_at w o).receiver ≢ right w v x) → Inv w → Edits w (open_to (look_at w x v) x (right w v x)) p
@@ -55,6 +55,7 @@ move_edits G w w' p g (take_move y s m e) some pl rests = subst (λ k. Edits w k
     (take_edits w y s p (can_take w y s g.inv m) pl (g.inv.is_ring.distinct (newest w) (omega arith)) (g.inv.is_ring.stands y (newest w) (ap runs_phase m.up) (g.inv.is_ring.held y) (omega arith)) (take_standing w y s p g.inv m (g.inv.origins p some pl) pl))
 move_edits G w w' p g (begin_move y s m e) some pl rests = subst (λ k. Edits w k p) (sym e) (closes_edits w _ p (begin_closes w y s p (begin_can w y s g.inv m) pl))
 move_edits G w w' p g (current_move y c lt up k e) some pl rests = subst (λ k. Edits w k p) (sym e) (closes_edits w _ p (current_closes w y p c lt up))
+move_edits G w w' p g (copy_move x m lt up e) some pl rests = subst (λ k. Edits w k p) (sym e) (closes_edits w _ p (settled_closes w x p (member_at w x).current m true lt up))
 move_edits G w w' p g (stop_move x lt rx e) some pl rests = subst (λ k. Edits w k p) (sym e) (stop_edits w x p lt g.inv rx (g.inv.origins p some pl))
 move_edits G w w' p g (way_move s l lt k e) some pl rests = subst (λ k. Edits w k p) (sym e) (closes_edits w _ p (way_closes w s l p k lt))
 move_edits G w w' p g (look_move x v m e) some pl rests = subst (λ k. Edits w k p) (sym e) (closes_edits w _ p (look_closes w x v p m.is_member m.up m.later))

@@ -19,7 +19,7 @@ use Rattle.group_view.proofs.Neighbours.{FirstPass, first_pass, first_passes, pa
 use Rattle.ring_rules.specs.Machine.{Packet, Link, World, no_link, row_at, numbers_at, member_at, link_at, newest, ring, runs, is_kept, Phase, Waiting, Up, Stopped, is_waiting}
 use Rattle.ring_rules.proofs.walks.CountedWalk.{newest_first, numbers, only, no_but, when, counted, block, is_early, round_of, stopped_from, running_from, walk_over, walk, past_first}
 use Rattle.ring_rules.specs.Step.{size, opening}
-use Rattle.ring_rules.specs.Event.{Event, IsRun, last}
+use Rattle.ring_rules.specs.Act.{Act, IsRun, last}
 use Rattle.ring_rules.specs.OpenLinks.{number, NeverRises, version_of, comes_from_left, passes, is_place, is_current, is_open, open_links, packets_of, packets_on, open_packets, is_late, late_packets, early_packets, stop_of, round_trip, walk_of, the_walk}
 use Rattle.ring_rules.proofs.walks.Gaps.{prefix_before}
 use Rattle.ring_rules.proofs.invariants.FromLeft.{IsGood, opened_right, comes_is, sender_known}
@@ -298,13 +298,13 @@ walk_is w p h k some lt = by_running (running_from w p) refl
         ∙ ap (λ us. round_of (λ n. n.got) (λ a. a.got) w p (stopped_from w p) (y ∷ ys) ++ (us ++ (row_at (member_at w y) p).retired ∷ [])) (trip_is (λ n. n.forgot) (λ a. a.forgot) w p y ys h k some lt e)
 
 -- in every state of every run
-pub reached_ends : (credit : CreditSpec) (names : List (List ℕ)) (es : List Event) → AreOpeningNames names → IsRun (opening credit names) es → EndsRight (last (opening credit names) es)
+pub reached_ends : (credit : CreditSpec) (names : List (List ℕ)) (es : List Act) → AreOpeningNames names → IsRun (opening credit names) es → EndsRight (last (opening credit names) es)
 reached_ends credit names es are r = ends_run (opening credit names) es (opening_good credit names are) r (opening_ends credit names)
 
 -- so both walks are one in each
-pub every_walk_is : (credit : CreditSpec) (names : List (List ℕ)) (es : List Event) (p : ℕ) → AreOpeningNames names → IsRun (opening credit names) es → 1 ≤ p → p < size (last (opening credit names) es) → the_walk (last (opening credit names) es) p ≡ walk (last (opening credit names) es) p
+pub every_walk_is : (credit : CreditSpec) (names : List (List ℕ)) (es : List Act) (p : ℕ) → AreOpeningNames names → IsRun (opening credit names) es → 1 ≤ p → p < size (last (opening credit names) es) → the_walk (last (opening credit names) es) p ≡ walk (last (opening credit names) es) p
 every_walk_is credit names es p are r some lt = walk_is (last (opening credit names) es) p (reached_good credit names es are r) (reached_ends credit names es are r) some lt
 
 -- so it never rises either
-pub open_walk_never_rises : (credit : CreditSpec) (names : List (List ℕ)) (es : List Event) (p : ℕ) → AreOpeningNames names → IsRun (opening credit names) es → 1 ≤ p → p < size (last (opening credit names) es) → NeverRises (the_walk (last (opening credit names) es) p)
+pub open_walk_never_rises : (credit : CreditSpec) (names : List (List ℕ)) (es : List Act) (p : ℕ) → AreOpeningNames names → IsRun (opening credit names) es → 1 ≤ p → p < size (last (opening credit names) es) → NeverRises (the_walk (last (opening credit names) es) p)
 open_walk_never_rises credit names es p are r some lt = subst NeverRises (sym (every_walk_is credit names es p are r some lt)) ((reached_good credit names es are r).inv.walks p some lt)

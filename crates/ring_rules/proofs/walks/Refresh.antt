@@ -1,5 +1,6 @@
 -- What a member looks at, takes from and sends on.
 use Rattle.std.proofs.Common.{◌≡◌, ℕ, ◌<◌, ◌≤◌, Bool, true, false, refl, ap, arith, nat_eq, Option}
+use Rattle.queue_mirror.specs.Mirror.{MirrorState}
 use Rattle.std.specs.Prelude.{◌&&◌}
 use Rattle.ring_rules.specs.Machine.{Up, Member, Link, World, no_member, row_at, member_at, link_at, runs, is_kept, runs_phase}
 use Rattle.ring_rules.specs.Rows.{Row}
@@ -28,14 +29,19 @@ blind w x p y l hp hv hr hn = record {
   retires = λ q. at_set (λ k z. (row_at z p).retired ≡ (row_at (member_at w k) p).retired) w.members x q y no_member l (ap (λ a. a.retired) hr) (λ _. refl);
 }
 
--- pick and takeend
-pub current_closes : (w : World) (x p : ℕ) (c : Option ℕ) → x < size w → (member_at w x).phase ≡ Up → Closes w (with_member w x (with_current c (member_at w x))) p
-current_closes w x p c l up = blind w x p (with_current c (member_at w x)) l refl refl refl (λ g r. rw up refl)
+-- a member takes from another link, and its mirror is another
+abbrev pub settled : Option ℕ → MirrorState → Bool → Member → Member
+settled c m b y = record y { current = c; mirror = m; whole = b }
 
-pub current_walk : (w : World) (x p : ℕ) (c : Option ℕ) → x < size w → (member_at w x).phase ≡ Up → Weakens (walk w p) (walk (with_member w x (with_current c (member_at w x))) p)
-current_walk w x p c l up =
-    closes_walk w (with_member w x (with_current c (member_at w x))) p
-    (blind w x p (with_current c (member_at w x)) l refl refl refl (λ g r. rw up refl))
+-- pick, takeend, and a copy that is done
+pub settled_closes : (w : World) (x p : ℕ) (c : Option ℕ) (m : MirrorState) (b : Bool) → x < size w → (member_at w x).phase ≡ Up → Closes w (with_member w x (settled c m b (member_at w x))) p
+settled_closes w x p c m b l up = blind w x p (settled c m b (member_at w x)) l refl refl refl (λ g r. rw up refl)
+
+pub current_closes : (w : World) (x p : ℕ) (c : Option ℕ) → x < size w → (member_at w x).phase ≡ Up → Closes w (with_member w x (with_current c (member_at w x))) p
+current_closes w x p c l up = settled_closes w x p c (member_at w x).mirror (member_at w x).whole l up
+
+pub settled_walk : (w : World) (x p : ℕ) (c : Option ℕ) (m : MirrorState) (b : Bool) → x < size w → (member_at w x).phase ≡ Up → Weakens (walk w p) (walk (with_member w x (settled c m b (member_at w x))) p)
+settled_walk w x p c m b l up = closes_walk w (with_member w x (settled c m b (member_at w x))) p (settled_closes w x p c m b l up)
 
 pub kept_less : (w : World) (l : Link) (u v : ℕ) → u ≤ v → is_kept w l v ≡ true → is_kept w l u ≡ true
 kept_less w l u v le h = kept_true w l u (λ k a b. true_kept w l v h k a (omega arith))

@@ -2,10 +2,10 @@
 use Rattle.std.proofs.Common.{◌≡◌, ℕ, ◌<◌, ◌≤◌, List, [], ◌∷◌, None, Some, arith}
 use Rattle.ring_names.specs.declared.numbers.CreditSpec.{CreditSpec}
 use Rattle.group_view.specs.Change.{AreOpeningNames}
-use Rattle.ring_rules.specs.declared.event.Event.{Event}
 use Rattle.ring_rules.specs.Machine.{World, member_at}
 use Rattle.ring_rules.specs.Step.{size, opening}
-use Rattle.ring_rules.specs.Event.{id_of, refusal, effect, IsRun, last}
+use Rattle.ring_rules.specs.Event.{Event, id_of, refusal, effect}
+use Rattle.ring_rules.specs.Act.{Act, act_of, IsRun, last}
 use Rattle.ring_rules.specs.Lawful.{StaysWithinLogs}
 use Rattle.ring_rules.specs.Laws.{GoesOn}
 use Rattle.ring_rules.proofs.invariants.Happens.{IsGood, reached_good, newest_is}
@@ -45,13 +45,13 @@ pub few_members : (w : World) → IsGood w → size w ≤ 65
 few_members w g = omega (arith, g.next_id, (newest_is w g.views).numbered, (newest_is w g.views).few)
 
 -- it holds in every state of every run
-pub reached_fit : (credit : CreditSpec) (names : List (List ℕ)) (events : List Event) → AreOpeningNames names → IsRun (opening credit names) events → IsFit (last (opening credit names) events)
-reached_fit credit names events are r = record {
-  good = reached_good credit names events are r;
-  ends = reached_ends credit names events are r;
-  named = λ x some lt. named_found (last (opening credit names) events) x (reached_named credit names events are r) some lt;
-  goes = λ e k. every_run_goes_on credit names events (e ∷ []) are r (k, tt);
-  within = λ e k. (run_keeps IsLogged (part_logged IsGood) (last (opening credit names) events) (e ∷ []) (reached_good credit names events are r) (k, tt) (run_logged credit names events are r)).within;
-  own_ends = reached_owns credit names events are r;
-  nobody = reached_nobody credit names events are r;
+pub reached_fit : (credit : CreditSpec) (names : List (List ℕ)) (acts : List Act) → AreOpeningNames names → IsRun (opening credit names) acts → IsFit (last (opening credit names) acts)
+reached_fit credit names acts are r = record {
+  good = reached_good credit names acts are r;
+  ends = reached_ends credit names acts are r;
+  named = λ x some lt. named_found (last (opening credit names) acts) x (reached_named credit names acts are r) some lt;
+  goes = λ e k. every_run_goes_on credit names acts (act_of e ∷ []) are r (k, tt);
+  within = λ e k. (run_keeps IsLogged (part_logged IsGood) (last (opening credit names) acts) (act_of e ∷ []) (reached_good credit names acts are r) (k, tt) (run_logged credit names acts are r)).within;
+  own_ends = reached_owns credit names acts are r;
+  nobody = reached_nobody credit names acts are r;
 }

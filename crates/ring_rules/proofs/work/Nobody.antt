@@ -14,8 +14,7 @@ use Rattle.group_view.proofs.Joining.{ids-admitted, not_in_after_other}
 use Rattle.ring_rules.proofs.invariants.Newest.{NewestAfter, newest_stays, newest_marked, newest_erased, newest_synced, newest_admitted, newest_after}
 use Rattle.ring_rules.specs.Machine.{World, view_in, newest, ring}
 use Rattle.ring_rules.specs.Step.{size, opening}
-use Rattle.ring_rules.specs.Event.{IsRun, last}
-use Rattle.ring_rules.specs.declared.event.Event.{Event}
+use Rattle.ring_rules.specs.Act.{Act, IsRun, last}
 use Rattle.ring_rules.proofs.invariants.Opening.{opening_ids, range_in}
 use Rattle.ring_rules.proofs.invariants.Happens.{IsGood, opening_good, newest_is, ring_below}
 use Rattle.ring_rules.proofs.invariants.Moves.{Move, run_moves}
@@ -61,5 +60,5 @@ pub ring_members : (w : World) → IsGood w → NobodyAtZero w → (q : ℕ) →
 ring_members w g none q i = (some_in w none q i, ring_below w g q i)
 
 -- in every state of every run
-pub reached_nobody : (credit : CreditSpec) (names : List (List ℕ)) (es : List Event) → AreOpeningNames names → IsRun (opening credit names) es → NobodyAtZero (last (opening credit names) es)
+pub reached_nobody : (credit : CreditSpec) (names : List (List ℕ)) (es : List Act) → AreOpeningNames names → IsRun (opening credit names) es → NobodyAtZero (last (opening credit names) es)
 reached_nobody credit names es are r = run_moves NobodyAtZero move_nobody (opening credit names) es (opening_good credit names are) r (opening_nobody credit names)

@@ -5,19 +5,19 @@ use Rattle.std.proofs.lemmas.List.{length-set, length_push, get_or_append_left, 
 use Rattle.std.proofs.lemmas.List.Quantifiers.{position-Some}
 use Rattle.ring_names.specs.declared.numbers.CreditSpec.{CreditSpec}
 use Rattle.group_view.specs.Change.{AreOpeningNames, marked}
-use Rattle.ring_rules.specs.declared.event.Event.{Event}
+use Rattle.ring_rules.specs.Act.{Act, refusal, effect, IsRun, last}
 use Rattle.ring_rules.specs.View.{right_of}
 use Rattle.ring_rules.specs.declared.phase.Ending.TheVariants.{Moved, Halted}
 use Rattle.ring_rules.specs.Machine.{Member, Link, World, no_link, no_member, member_at, link_at, view_in, newest, runs, runs_phase, is_kept, oldest}
-use Rattle.ring_rules.specs.Step.{size, published, taker, popped, pushed, next_packet, current_is, with_current, finished, ended, stop_at, stopped, with_member, with_link, with_view, look_at, moved_to, open_to, opened_link, opening, opening_member, come_to, begun}
-use Rattle.ring_rules.specs.Event.{at_door, is_at_door, refreshed, refusal, effect, IsRun, last, erased_view, synced_view}
+use Rattle.ring_rules.specs.Step.{copied, size, published, taker, popped, pushed, next_packet, current_is, with_current, finished, ended, stop_at, stopped, with_member, with_link, with_view, look_at, moved_to, open_to, opened_link, opening, opening_member, come_to, begun}
+use Rattle.ring_rules.specs.Event.{at_door, is_at_door, refreshed, erased_view, synced_view}
 use Rattle.ring_rules.proofs.rings.Lists.{at_set}
 use Rattle.ring_rules.proofs.rings.Rounds.{nat_eq-is}
-use Rattle.ring_rules.proofs.events.Cases.{Cases, each_event}
+use Rattle.ring_rules.proofs.events.Cases.{Cases, each_act}
 use Rattle.ring_rules.proofs.events.Composed.{end_composed, refresh_composed}
 use Rattle.ring_rules.proofs.invariants.KeptLook.{kept_current-Some}
 use Rattle.ring_rules.proofs.invariants.Opening.{opening_inv}
-use Rattle.ring_rules.proofs.invariants.Happens.{IsGood, run_events, opening_good, admit_composed, can_join, joined_links}
+use Rattle.ring_rules.proofs.invariants.Happens.{IsGood, run_acts, opening_good, admit_composed, can_join, joined_links}
 use Rattle.ring_rules.proofs.invariants.KeptAdmit.{CanJoin, join_member, joined_state}
 use Rattle.ring_rules.proofs.events.First.{first_at, first_each}
 use Rattle.ring_rules.proofs.events.Leaves.{with_opened}
@@ -119,8 +119,8 @@ admitted_owns w m name j h = admit_composed OwnEnds w m name j
 
 -- ---- events
 
-event_owns : (w : World) (e : Event) → IsGood w → refusal w e ≡ None → OwnEnds w → OwnEnds (effect w e)
-event_owns w e g r h = each_event OwnEnds w e g cases r
+act_owns : (w : World) (e : Act) → IsGood w → refusal w e ≡ None → OwnEnds w → OwnEnds (effect w e)
+act_owns w e g r h = each_act OwnEnds w e g cases (λ x m u _. set_owns w x (copied m (member_at w x)) u.lt (same_member x (copied m (member_at w x)) refl refl) h) r
   where
     same_member : (x : ℕ) → (y : Member) → y.out ≡ (member_at w x).out → y.current ≡ (member_at w x).current → Owns w x y
     same_member x y o c = record { out = λ k e. h.out x k (sym o ∙ e); current = λ s e. h.current x s (sym c ∙ e) }
@@ -174,5 +174,5 @@ opening_owns credit names = record { out = λ x. (each x).out; current = λ x. (
         (record { out = λ o e. cc; current = λ s e. cc })
 
 -- in every state of every run
-pub reached_owns : (credit : CreditSpec) (names : List (List ℕ)) (events : List Event) → AreOpeningNames names → IsRun (opening credit names) events → OwnEnds (last (opening credit names) events)
-reached_owns credit names events are r = run_events OwnEnds event_owns (opening credit names) events (opening_good credit names are) r (opening_owns credit names)
+pub reached_owns : (credit : CreditSpec) (names : List (List ℕ)) (events : List Act) → AreOpeningNames names → IsRun (opening credit names) events → OwnEnds (last (opening credit names) events)
+reached_owns credit names events are r = run_acts OwnEnds act_owns (opening credit names) events (opening_good credit names are) r (opening_owns credit names)

@@ -15,9 +15,10 @@ use Rattle.ring_rules.specs.Work.{items, place_at, weight_at, on_links, marks_le
 use Rattle.ring_rules.proofs.work.Places.{IsWritten, NoneRises}
 use Rattle.ring_rules.proofs.work.Sums.{sum_le, sum_at, sum_ids}
 use Rattle.ring_rules.proofs.invariants.FromLeft.{IsGood}
-use Rattle.ring_rules.proofs.walks.LeftLinks.{IsLater, event_later}
+use Rattle.ring_rules.specs.Act.{act_of}
+use Rattle.ring_rules.proofs.walks.LeftLinks.{IsLater, act_later}
 use Rattle.ring_rules.specs.Lawful.{StaysWithinLogs}
-use Rattle.ring_rules.proofs.invariants.Happens.{event_good}
+use Rattle.ring_rules.proofs.invariants.Happens.{act_good}
 
 -- ---- amounts
 
@@ -189,4 +190,4 @@ abbrev pub LowersThen : World → World → Type 0
 LowersThen w w' = Follows w w' → Lowers w w'
 
 pub event_follows : (w : World) (e : Event) → IsFit w → refusal w e ≡ None → Follows w (effect w e)
-event_follows w e f r = record { goes = f.goes e r; within = f.within e r; good = event_good w e f.good r; later = event_later w e f.good r }
+event_follows w e f r = record { goes = f.goes e r; within = f.within e r; good = act_good w (act_of e) f.good r; later = act_later w (act_of e) f.good r }

@@ -14,13 +14,11 @@ use Rattle.ring_rules.specs.Event.{id_of, refusal, effect, last, refusals_of}
 use Rattle.ring_rules.specs.declared.event.Event.{Event}
 use Rattle.ring_world.specs.Reached.{WorldSeen, IsReachedIn, IsRunning, state_of, seen_of}
 use Rattle.ring_world.specs.declared.world.World.TheInside.{Inside}
-use Rattle.ring_rules.proofs.walks.OpenWalk.{open_walk_never_rises}
-use Rattle.ring_rules.proofs.runs.AllRuns.{every_state_lawful}
-use Rattle.ring_rules.proofs.runs.LinkCredit.{run_credited}
+use Rattle.ring_rules.proofs.runs.OfEvents.{every_state_lawful, run_credited, reached_named}
 use Rattle.ring_world.proofs.code.Agreed.{agreed_from}
 use Rattle.ring_world.proofs.code.Running.{reached_more}
 use Rattle.ring_rules.proofs.events.Refusals.{id_within}
-use Rattle.ring_rules.proofs.invariants.Named.{reached_named, named_found}
+use Rattle.ring_rules.proofs.invariants.Named.{named_found}
 use Rattle.std.proofs.Math.Nat.{ℕ_set}
 use Rattle.std.proofs.Props.{props}
 use Rattle.queue_core.specs.declared.message.Message.{Message}
@@ -37,7 +35,7 @@ never_rises seen n r (x ∷ xs) f = falls_from seen n r x xs f
 
 reached_falls : (seen : WorldSeen) (n p : ℕ) → 1 ≤ p → p < size seen.ring → IsReachedIn seen n → NeverRises (the_walk seen.ring p)
 reached_falls seen n p some within r =
-    subst (λ v. NeverRises (the_walk v p)) (sym r.is) (open_walk_never_rises r.credit r.names r.events p r.are r.run some (subst (λ v. p < size v) r.is within))
+    subst (λ v. NeverRises (the_walk v p)) (sym r.is) ((every_state_lawful r.credit r.names r.events r.are r.run).walks p some (subst (λ v. p < size v) r.is within))
 
 pub named_falls : (a : Inside) (name walk : List ℕ) → IsRunning a → walk ≡ walk_named (state_of a) (id_of (state_of a) name) → NeverRises walk
 named_falls a name walk r e = subst NeverRises (sym e) (by_id (id_of (state_of a) name) refl)
@@ -112,7 +110,7 @@ links_from seen n v r f = record {
     goes_on = ∥∥₁_elim r (endings_set _ _) (λ h. ((f h).out x o a b).goes_on);
   };
   nowhere = λ x a b. record {
-    joined = ∥∥₁_elim r (tests_set _ _) (λ h. ((f h).nowhere x a b).joined);
+    joined = ∥∥₁_elim r le_prop (λ h. ((f h).nowhere x a b).joined);
     version = ∥∥₁_elim r (ℕ_set _ _) (λ h. ((f h).nowhere x a b).version);
     none = λ s l is. ∥∥₁_elim r never_prop (λ h. ((f h).nowhere x a b).none s l is);
   };

@@ -11,7 +11,7 @@ use Rattle.ring_rules.specs.Event.{refusal, effect, refusals_of}
 use Rattle.ring_rules.specs.declared.event.Event.{Event}
 use Rattle.ring_rules.specs.QueuePart.{part_of}
 use Rattle.ring_rules.specs.QueueLaws.{QueueIsRight}
-use Rattle.ring_rules.proofs.queue.Runs.{run_queue_right}
+use Rattle.ring_rules.proofs.runs.OfEvents.{run_queue_right}
 use Rattle.ring_world.specs.Reached.{WorldSeen, IsReachedIn}
 use Rattle.ring_world.proofs.code.Running.{reached_more}
 
@@ -51,7 +51,7 @@ right_after seen w n e few x is h =
     let after : WorldSeen = record { ring = w; refusals = seen.refusals ++ refusals_of (e ∷ []) } in
     let m : IsReachedIn after (n + 1) = reached_more seen after n (n + 1) e h x is refl refl in
     let small : 2 ^ 59 + 1 < greatest = lit< tt in
-    subst (λ k. QueueIsRight k w) m.count (subst (QueueIsRight (length m.events)) (sym m.is) (run_queue_right m.credit m.names m.events m.are (omega (arith, m.count, few, small)) m.run))
+    subst (λ k. QueueIsRight k w) m.count (subst (QueueIsRight (length m.events)) (sym m.is) (run_queue_right m.credit m.names m.events m.are m.run (omega (arith, m.count, few, small))))
 
 -- all mirrors agree in it
 pub mirrors_more : (seen : WorldSeen) (w : World) (n : ℕ) (e : Event) → ∥ IsReachedIn seen n ∥₁ → n < 2 ^ 59 → refusal seen.ring e ≡ None → w ≡ effect seen.ring e → MirrorsAgree (part_of w)

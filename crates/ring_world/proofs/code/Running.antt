@@ -25,8 +25,8 @@ use Rattle.ring_world.specs.Reached.{WorldSeen, IsReachedIn, IsRunning, state_of
 use Rattle.ring_world.specs.declared.world.World.TheInside.{Inside}
 use Rattle.ring_rules.proofs.invariants.FromLeft.{nobody_first}
 use Rattle.ring_rules.proofs.invariants.FromLeft.{HasViews}
-use Rattle.ring_rules.proofs.invariants.Happens.{IsGood, newest_is, may_admit, opening_good, run_events, run_good}
-use Rattle.ring_rules.proofs.runs.InOrder.{last_append, run_append}
+use Rattle.ring_rules.proofs.invariants.Happens.{IsGood, newest_is, may_admit, opening_good}
+use Rattle.ring_rules.proofs.runs.OfEvents.{run_events, run_good, last_append, run_append}
 use Rattle.ring_rules.proofs.work.Fit.{few_members}
 use Rattle.ring_world.proofs.code.Sized.{IsSized, opening_sized, event_sized}
 

@@ -1,4 +1,4 @@
-use Rattle.ring_rules.proofs.rests.Rests.{run_worked_rests}
+use Rattle.ring_rules.proofs.runs.OfEvents.{run_worked_rests}
 use Rattle.ring_cluster.proofs.laws.an_idle_ring_is_at_rest.Goals as goal
 
 pub returns : goal.returns

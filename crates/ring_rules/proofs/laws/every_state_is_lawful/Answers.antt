@@ -1,4 +1,4 @@
-use Rattle.ring_rules.proofs.runs.AllRuns.{every_state_lawful}
+use Rattle.ring_rules.proofs.runs.OfEvents.{every_state_lawful}
 use Rattle.ring_rules.proofs.laws.every_state_is_lawful.Goals as goal
 
 pub returns : goal.returns

@@ -1,4 +1,4 @@
-use Rattle.ring_rules.proofs.runs.AllRuns.{every_run_goes_on}
+use Rattle.ring_rules.proofs.runs.OfEvents.{every_run_goes_on}
 use Rattle.ring_rules.proofs.laws.nothing_falls_through_deaths.Goals as goal
 
 pub returns : goal.returns

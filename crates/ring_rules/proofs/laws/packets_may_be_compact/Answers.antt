@@ -1,4 +1,4 @@
-use Rattle.ring_rules.proofs.compact.AllCompact.{reached_compact}
+use Rattle.ring_rules.proofs.runs.OfEvents.{reached_compact}
 use Rattle.ring_rules.proofs.laws.packets_may_be_compact.Goals as goal
 
 pub returns : goal.returns
