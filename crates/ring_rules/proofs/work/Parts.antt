@@ -158,6 +158,22 @@ module _ (w w' : World) (x : ℕ) (y : Member) (less more : Amount) (u : IsRunni
       own : (g' g l a b : ℕ) → g' ≤ g → g + a ≤ l + b → g' + a ≤ l + b
       own g' g l a b h i = omega arith
 
+  -- what is under way
+  traffics : traffic w' + (3 * less.dirty + 3 * less.lag + less.links) ≤ traffic w + (3 * more.dirty + 3 * more.lag + more.links)
+  traffics = three (dirty w) (dirty w') (lag w) (lag w') (on_links w) (on_links w') dirties lags k.links
+    where
+      three : (d d' g g' n n' : ℕ) → d' + less.dirty ≤ d + more.dirty → g' + less.lag ≤ g + more.lag → n' + less.links ≤ n + more.links
+          → 3 * d' + 3 * g' + n' + (3 * less.dirty + 3 * less.lag + less.links) ≤ 3 * d + 3 * g + n + (3 * more.dirty + 3 * more.lag + more.links)
+      three d d' g g' n n' a b c = omega arith
+
+  -- it leaves no more to do, where what it adds counts for no more than what it takes
+  pub step_stays : worth more ≤ worth less → total w' ≤ total w
+  step_stays counts = sum (marks_left w) (marks_left w') (stale w) (stale w') (owed w) (owed w') (traffic w) (traffic w') (3 * less.dirty + 3 * less.lag + less.links) (3 * more.dirty + 3 * more.lag + more.links) k.marks k.stale owes traffics counts
+    where
+      sum : (m m' s s' o o' t t' l g : ℕ) → m' + less.marks ≤ m + more.marks → s' + less.stale ≤ s + more.stale → o' + less.owed ≤ o + more.owed → t' + l ≤ t + g
+          → 2600000 * more.marks + 39100 * more.stale + 600 * more.owed + g ≤ 2600000 * less.marks + 39100 * less.stale + 600 * less.owed + l → 2600000 * m' + 39100 * s' + 600 * o' + t' ≤ 2600000 * m + 39100 * s + 600 * o + t
+      sum m m' s s' o o' t t' l g a b e c d = omega arith
+
   -- it leaves less to do, where what it takes falls to what it adds, and counts for more
   pub step_lowers : Falls (listed less) (listed more) → worth more < worth less → Lowers w w'
   step_lowers falls counts = record {
@@ -165,13 +181,6 @@ module _ (w w' : World) (x : ℕ) (y : Member) (less more : Amount) (u : IsRunni
     less = sum (marks_left w) (marks_left w') (stale w) (stale w') (owed w) (owed w') (traffic w) (traffic w') (3 * less.dirty + 3 * less.lag + less.links) (3 * more.dirty + 3 * more.lag + more.links) k.marks k.stale owes traffics counts;
   }
     where
-      traffics : traffic w' + (3 * less.dirty + 3 * less.lag + less.links) ≤ traffic w + (3 * more.dirty + 3 * more.lag + more.links)
-      traffics = three (dirty w) (dirty w') (lag w) (lag w') (on_links w) (on_links w') dirties lags k.links
-        where
-          three : (d d' g g' n n' : ℕ) → d' + less.dirty ≤ d + more.dirty → g' + less.lag ≤ g + more.lag → n' + less.links ≤ n + more.links
-              → 3 * d' + 3 * g' + n' + (3 * less.dirty + 3 * less.lag + less.links) ≤ 3 * d + 3 * g + n + (3 * more.dirty + 3 * more.lag + more.links)
-          three d d' g g' n n' a b c = omega arith
-
       sum : (m m' s s' o o' t t' l g : ℕ) → m' + less.marks ≤ m + more.marks → s' + less.stale ≤ s + more.stale → o' + less.owed ≤ o + more.owed → t' + l ≤ t + g
           → 2600000 * more.marks + 39100 * more.stale + 600 * more.owed + g < 2600000 * less.marks + 39100 * less.stale + 600 * less.owed + l → 2600000 * m' + 39100 * s' + 600 * o' + t' < 2600000 * m + 39100 * s + 600 * o + t
       sum m m' s s' o o' t t' l g a b e c d = omega arith
