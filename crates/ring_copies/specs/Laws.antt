@@ -1,0 +1,19 @@
+-- The laws of copies.
+use Rattle.std.specs.Prelude.{ℕ, ◌<◌, length}
+use Rattle.credit_flow.specs.Link.{Link as CreditLink, KeepsCredit as KeepsLoads}
+use Rattle.ring_rules.specs.Laws.{IsLawful}
+use Rattle.ring_copies.specs.Copies.{CopyLink, CopyWorld, copy_link_at}
+
+-- a copy's link as credit_flow has it; an end is no load
+abbrev pub credit_of_copy : CopyLink → CreditLink
+credit_of_copy c = record { sender = c.flow.sender; loads = length c.loads; receiver = c.flow.receiver; grants = c.flow.grants }
+
+-- Each copy keeps its credit, whether it is over or not: what its master may still put, the loads on the way, those counted
+-- since the last grant, the grants under way and those held back are together the initial credit.
+abbrev pub CopiesKeepCredit : ℕ → CopyWorld → Type 0
+CopiesKeepCredit initial W = (i : ℕ) → i < length W.copies → KeepsLoads initial (credit_of_copy (copy_link_at W.copies i))
+
+-- in every state the ring is lawful, and its copies keep their credit
+pub record IsLawfulWithCopies (initial : ℕ) (W : CopyWorld) : Type 0 where
+  pub ring : IsLawful initial W.ring
+  pub credit : CopiesKeepCredit initial W

@@ -1,0 +1,42 @@
+//! The laws of a ring with copies, over all runs.
+ghost use Rattle.std.specs.Prelude.{ℕ, List, length, ◌≤◌};
+ghost use Rattle.ring_names.specs.declared.numbers.CreditSpec.{CreditSpec};
+ghost use Rattle.group_view.specs.Change.{AreOpeningNames};
+ghost use Rattle.ring_rules.specs.Step.{opening};
+ghost use Rattle.ring_rules.specs.Laws.{GoesOn};
+ghost use Rattle.ring_rules.specs.QueueLaws.{LaterMastersStart};
+ghost use Rattle.ring_copies.specs.Events.{CopyEvent, IsRun, last, without_copies};
+ghost use Rattle.ring_copies.specs.Laws.{IsLawfulWithCopies};
+ghost use Rattle.ring_copies.specs.Work.{AreRepairsWithCopies, total_with_copies};
+
+/// However masters copy their queue to mirrors while members join, stop, are marked dead and erased: the ring is lawful
+/// as it is without copies, and each copy keeps its credit, whether it is over or not.
+pub fn every_state_is_lawful_with_copies()
+    ensures { (credit : CreditSpec) (names : List (List ℕ)) (events : List CopyEvent)
+        → AreOpeningNames names → IsRun (without_copies (opening credit names)) events
+        → IsLawfulWithCopies credit.initial (last (without_copies (opening credit names)) events) }
+{}
+
+/// From a state to each later one no log is cut and no number falls, and what is heard meanwhile is what follows.
+pub fn nothing_falls_with_copies()
+    ensures { (credit : CreditSpec) (names : List (List ℕ)) (earlier later : List CopyEvent)
+        → AreOpeningNames names → IsRun (without_copies (opening credit names)) earlier
+        → IsRun (last (without_copies (opening credit names)) earlier) later
+        → GoesOn (last (without_copies (opening credit names)) earlier).ring
+        (last (last (without_copies (opening credit names)) earlier) later).ring }
+{}
+
+/// A later master publishes Start before anything else, a mark too.
+pub fn later_masters_start_first_with_copies()
+    ensures { (credit : CreditSpec) (names : List (List ℕ)) (events : List CopyEvent)
+        → AreOpeningNames names → IsRun (without_copies (opening credit names)) events
+        → LaterMastersStart (last (without_copies (opening credit names)) events).ring }
+{}
+
+/// Of steps of repair, of the ring and of its copies, no more can follow each other than `total_with_copies` says.
+pub fn repairs_end_with_copies()
+    ensures { (credit : CreditSpec) (names : List (List ℕ)) (events steps : List CopyEvent)
+        → AreOpeningNames names → IsRun (without_copies (opening credit names)) events
+        → AreRepairsWithCopies (last (without_copies (opening credit names)) events) steps
+        → length steps ≤ total_with_copies (last (without_copies (opening credit names)) events) }
+{}

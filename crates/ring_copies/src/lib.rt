@@ -1,0 +1,10 @@
+//! Copies of the mirrored queue beside a ring: what each step does, and the laws over runs with them. Begin at
+//! `every_state_is_lawful_with_copies`.
+#![tactic(auto)]
+
+mod laws;
+
+pub use laws::{
+    every_state_is_lawful_with_copies, later_masters_start_first_with_copies,
+    nothing_falls_with_copies, repairs_end_with_copies,
+};
