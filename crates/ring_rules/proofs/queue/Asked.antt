@@ -123,3 +123,9 @@ may_let w x (Queue o) g k =
     let asked = operation_asked w x o k.0 k.1 in
     let a = answered (member_at w x).mirror (view_in w (member_at w x).version) x (member_at w x).started asked.0 o asked.1 in
     (record { version = (member_at w x).version; there = g.inv.is_ring.held x; master = a.leads }, a.may)
+
+-- and who publishes an operation leads by its own view
+pub leads_itself : (w : World) (x : ℕ) (m : Message) → MayPublish w x m → (o : Op) → m ≡ Queue o → option_map id_number (view_in w (member_at w x).version).master ≡ Some x
+leads_itself w x m k o is =
+    let asked = operation_asked w x o k.0 (k.1 ∙ ap Ok is) in
+    (answered (member_at w x).mirror (view_in w (member_at w x).version) x (member_at w x).started asked.0 o asked.1).leads

@@ -40,7 +40,7 @@ pub record IsKnown (n : ℕ) (w : World) : Type 0 where
   pub masters : HasMasters w
 
 -- each event is a move
-act_result : (w : World) (e : Act) (n : ℕ) → refusal w e ≡ None → CopyIsRight w e → Facts w → IsKnown n w → GoesOn w (effect w e) → Result w (effect w e)
+pub act_result : (w : World) (e : Act) (n : ℕ) → refusal w e ≡ None → CopyIsRight w e → Facts w → IsKnown n w → GoesOn w (effect w e) → Result w (effect w e)
 act_result w e n r right f k = each_act_of (IsCopyOf w) (λ w'. GoesOn w w' → Result w w') w e f.good (record {
   casts = λ x m u may on. casts w x m u.some u.lt u.up f may on k.gives k.holds.terms k.masters;
   puts = λ x o u out c _. quiet w (put_on w x o) (put_quiet w x o f.good (f.good.inv.linked.out_lt x o (ap runs_phase u.up) out)) k.masters;
