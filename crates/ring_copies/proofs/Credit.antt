@@ -60,14 +60,16 @@ module _ (initial more : ℕ) (positive : 1 ≤ more) where
   each : EachKept IsOf (CopyIsKept initial more)
   each = record {
     opens = new_kept;
-    puts = put_kept;
-    gains = λ c some h. gain_keeps initial more (credit_of_copy c) (some_on_it c.flow.grants some) h;
-    items = λ b a c ls e h. load_kept b c (OneItem a) ls e h;
-    done = λ b c ls e h. load_kept b c Done ls e h;
-    drops = λ c h. h;
-    halts = λ c h. h;
-    closes = λ c h. h;
-    frees = λ c h. judged_kept false c h;
+    steps = record {
+      puts = put_kept;
+      gains = λ c some h. gain_keeps initial more (credit_of_copy c) (some_on_it c.flow.grants some) h;
+      items = λ b a c ls e h. load_kept b c (OneItem a) ls e h;
+      done = λ b c ls e h. load_kept b c Done ls e h;
+      drops = λ c h. h;
+      halts = λ c h. h;
+      closes = λ c h. h;
+      frees = λ c h. judged_kept false c h;
+    };
   }
 
 -- in every state of every run

@@ -37,9 +37,8 @@ puts_some x c h = by_all (nat_eq c.sender x) c.over (is_empty c.to_put) h
     by_all true false true h = absurd (false≢true h)
     by_all false b true h = absurd (false≢true h)
 
--- Q is left of a copy by each step; where one opens, P is known of the ring
-pub record EachKept (P : World → Type 0) (Q : CopyLink → Type 0) : Type 0 where
-  pub opens : (w : World) (x n : ℕ) → P w → Q (new_copy w x n)
+-- Q is left of a copy by each step on it, by a stop of its master, and by a look at a view
+pub record StepKept (Q : CopyLink → Type 0) : Type 0 where
   pub puts : (c : CopyLink) → is_empty c.to_put ≡ false → is_blocked c.flow.sender ≡ false → Q c → Q (copy_put c)
   pub gains : (c : CopyLink) → is_empty c.flow.grants ≡ false → Q c → Q (copy_gained c)
   pub items : (b : Bool) (a : Item) (c : CopyLink) (ls : List Load) → c.loads ≡ OneItem a ∷ ls → Q c → Q (item_taken b a c)
@@ -49,12 +48,27 @@ pub record EachKept (P : World → Type 0) (Q : CopyLink → Type 0) : Type 0 wh
   pub closes : (c : CopyLink) → Q c → Q (record c { over = true })
   pub frees : (c : CopyLink) → Q c → Q (record c { flow = judged false c.flow })
 
+-- and a copy opens with it, where P is known of the ring
+pub record EachKept (P : World → Type 0) (Q : CopyLink → Type 0) : Type 0 where
+  pub opens : (w : World) (x n : ℕ) → P w → Q (new_copy w x n)
+  pub steps : StepKept Q
+
 -- it holds of all
 abbrev pub OfAll : (CopyLink → Type 0) → List CopyLink → Type 0
 OfAll Q cs = (i : ℕ) → i < length cs → Q (copy_link_at cs i)
 
-module _ (P : World → Type 0) (Q : CopyLink → Type 0) (each : EachKept P Q) where
-  halted_kept : (x : ℕ) (c : CopyLink) → Q c → Q (halted_one x c)
+-- what is so of each copy is so of each behind a change of all
+pub map_to : (Q R : CopyLink → Type 0) (f : CopyLink → CopyLink) → ((c : CopyLink) → Q c → R (f c)) → (cs : List CopyLink) → OfAll Q cs → OfAll R (map f cs)
+map_to Q R f keeps cs h i lt =
+    let there : i < length cs = omega (arith, lt, length-map cs f) in
+    subst R (sym (map_at f cs i there)) (keeps (copy_link_at cs i) (h i there))
+
+-- and of one more
+pub push_kept : (Q : CopyLink → Type 0) (cs : List CopyLink) (c : CopyLink) → Q c → OfAll Q cs → OfAll Q (cs ++ c ∷ [])
+push_kept Q cs c k h i lt = at_push (λ j a. Q a) cs i c no_copy_link (omega (arith, lt, length_push cs c)) k (λ there. h i there)
+
+module _ (Q : CopyLink → Type 0) (each : StepKept Q) where
+  pub halted_kept : (x : ℕ) (c : CopyLink) → Q c → Q (halted_one x c)
   halted_kept x c h = by_case (is_put_by x c)
     where
       by_case : (b : Bool) → Q (cond b (record c { ended = true }) c)
@@ -79,21 +93,16 @@ module _ (P : World → Type 0) (Q : CopyLink → Type 0) (each : EachKept P Q) 
   -- ---- all of them
 
   map_kept : (f : CopyLink → CopyLink) → ((c : CopyLink) → Q c → Q (f c)) → (cs : List CopyLink) → OfAll Q cs → OfAll Q (map f cs)
-  map_kept f keeps cs h i lt =
-      let there : i < length cs = omega (arith, lt, length-map cs f) in
-      subst Q (sym (map_at f cs i there)) (keeps (copy_link_at cs i) (h i there))
+  map_kept f keeps cs h = map_to Q Q f keeps cs h
 
-  set_kept : (cs : List CopyLink) (o : ℕ) (c : CopyLink) → o < length cs → Q c → OfAll Q cs → OfAll Q (slice_set cs o c)
+  pub set_kept : (cs : List CopyLink) (o : ℕ) (c : CopyLink) → o < length cs → Q c → OfAll Q cs → OfAll Q (slice_set cs o c)
   set_kept cs o c lt k h i il =
       let there : i < length cs = omega (arith, il, length-set cs o c) in
       at_set (λ j a. Q a) cs o i c no_copy_link lt k (λ _. h i there)
 
-  let_go_kept : (b : Bool) (y : ℕ) (cs : List CopyLink) → OfAll Q cs → OfAll Q (let_go b y cs)
+  pub let_go_kept : (b : Bool) (y : ℕ) (cs : List CopyLink) → OfAll Q cs → OfAll Q (let_go b y cs)
   let_go_kept true y cs h = h
   let_go_kept false y cs h = map_kept (let_go_one y) (freed_kept y) cs h
-
-  push_kept : (cs : List CopyLink) (c : CopyLink) → Q c → OfAll Q cs → OfAll Q (cs ++ c ∷ [])
-  push_kept cs c k h i lt = at_push (λ j a. Q a) cs i c no_copy_link (omega (arith, lt, length_push cs c)) k (λ there. h i there)
 
   -- ---- events
 
@@ -118,24 +127,34 @@ module _ (P : World → Type 0) (Q : CopyLink → Type 0) (each : EachKept P Q) 
   load_kept W y i lt h c k (OneItem a ∷ ls) e = set_kept W.copies i (item_taken (is_blocked_at W.ring y) a c) lt (each.items (is_blocked_at W.ring y) a c ls e k) h
   load_kept W y i lt h c k (Done ∷ ls) e = set_kept W.copies i (done_taken (is_blocked_at W.ring y) c) lt (each.done (is_blocked_at W.ring y) c ls e k) h
 
+  pub puts_kept : (W : CopyWorld) (x : ℕ) → step_refusal W x Puts ≡ None → OfAll Q W.copies → OfAll Q (step_done W x Puts).copies
+  puts_kept W x r h = at_copy W (is_put_by x) (λ i. copy_put_refusal (copy_link_at W.copies i)) (λ i. with_copy W i (copy_put (copy_link_at W.copies i))) h
+      (λ i lt t free. set_kept W.copies i (copy_put (copy_link_at W.copies i)) lt (each.puts (copy_link_at W.copies i) (puts_some x (copy_link_at W.copies i) t) (refuse_none _ reason.NoCredit free) (h i lt)) h)
+      (copy_out W.copies x) refl r
+
+  pub takes_kept : (W : CopyWorld) (x : ℕ) → step_refusal W x Takes ≡ None → OfAll Q W.copies → OfAll Q (step_done W x Takes).copies
+  takes_kept W x r h = at_copy W (is_taken_by x) (λ i. copy_take_refusal W.ring x (copy_link_at W.copies i)) (take_copy W x) h
+      (λ i lt t may. load_kept W x i lt h (copy_link_at W.copies i) (h i lt) (copy_link_at W.copies i).loads refl)
+      (copy_in W.copies x) refl r
+
+  pub gains_kept : (W : CopyWorld) (x : ℕ) → step_refusal W x Gains ≡ None → OfAll Q W.copies → OfAll Q (step_done W x Gains).copies
+  gains_kept W x r h = at_copy W (is_put_by x) (λ i. copy_gain_refusal (copy_link_at W.copies i)) (λ i. with_copy W i (copy_gained (copy_link_at W.copies i))) h
+      (λ i lt t some. set_kept W.copies i (copy_gained (copy_link_at W.copies i)) lt (each.gains (copy_link_at W.copies i) (refuse_none _ reason.NoGrant some) (h i lt)) h)
+      (copy_out W.copies x) refl r
+
+module _ (P : World → Type 0) (Q : CopyLink → Type 0) (each : EachKept P Q) where
   step_kept : (W : CopyWorld) (x : ℕ) (s : CopyStep) → P W.ring → step_refusal W x s ≡ None → OfAll Q W.copies → OfAll Q (step_done W x s).copies
   step_kept W x (Opens target) p r h = by_target (id_of W.ring target)
     where
       by_target : (t : Option ℕ) → OfAll Q (where_found t W (open_copy W x)).copies
       by_target None = h
-      by_target (Some n) = push_kept W.copies (new_copy W.ring x n) (each.opens W.ring x n p) h
-  step_kept W x Puts p r h = at_copy W (is_put_by x) (λ i. copy_put_refusal (copy_link_at W.copies i)) (λ i. with_copy W i (copy_put (copy_link_at W.copies i))) h
-      (λ i lt t free. set_kept W.copies i (copy_put (copy_link_at W.copies i)) lt (each.puts (copy_link_at W.copies i) (puts_some x (copy_link_at W.copies i) t) (refuse_none _ reason.NoCredit free) (h i lt)) h)
-      (copy_out W.copies x) refl r
-  step_kept W x Takes p r h = at_copy W (is_taken_by x) (λ i. copy_take_refusal W.ring x (copy_link_at W.copies i)) (take_copy W x) h
-      (λ i lt t may. load_kept W x i lt h (copy_link_at W.copies i) (h i lt) (copy_link_at W.copies i).loads refl)
-      (copy_in W.copies x) refl r
-  step_kept W x Gains p r h = at_copy W (is_put_by x) (λ i. copy_gain_refusal (copy_link_at W.copies i)) (λ i. with_copy W i (copy_gained (copy_link_at W.copies i))) h
-      (λ i lt t some. set_kept W.copies i (copy_gained (copy_link_at W.copies i)) lt (each.gains (copy_link_at W.copies i) (refuse_none _ reason.NoGrant some) (h i lt)) h)
-      (copy_out W.copies x) refl r
+      by_target (Some n) = push_kept Q W.copies (new_copy W.ring x n) (each.opens W.ring x n p) h
+  step_kept W x Puts p r h = puts_kept Q each.steps W x r h
+  step_kept W x Takes p r h = takes_kept Q each.steps W x r h
+  step_kept W x Gains p r h = gains_kept Q each.steps W x r h
 
   done_kept : (W : CopyWorld) (e : CopyEvent) (x : ℕ) → P W.ring → refused_in W e x ≡ None → OfAll Q W.copies → OfAll Q (done_in W e x).copies
-  done_kept W (OfRing e) x p r h = after_kept (kind_of e) (done_as W.ring x (kind_of e)) x W.copies h
+  done_kept W (OfRing e) x p r h = after_kept Q each.steps (kind_of e) (done_as W.ring x (kind_of e)) x W.copies h
   done_kept W (OnCopy by s) x p r h = step_kept W x s p (up_none W.ring x _ r).1 h
   done_kept W (RefusesCopy code by target) x p r h = h
 
@@ -145,7 +164,7 @@ module _ (P : World → Type 0) (Q : CopyLink → Type 0) (each : EachKept P Q) 
     where
       by_id : (o : Option ℕ) → of_member o (refused_in W e) ≡ None → OfAll Q (where_found o W (λ x. let_go_by x (done_in W e x))).copies
       by_id None k = h
-      by_id (Some x) k = let_go_kept (is_blocked_at (done_in W e x).ring x) x (done_in W e x).copies (done_kept W e x p k h)
+      by_id (Some x) k = let_go_kept Q each.steps (is_blocked_at (done_in W e x).ring x) x (done_in W e x).copies (done_kept W e x p k h)
 
   -- every run, where P goes on
   pub run_kept : ((W : CopyWorld) (e : CopyEvent) → refusal W e ≡ None → P W.ring → P (effect W e).ring) → (W : CopyWorld) (es : List CopyEvent) → IsRun W es → P W.ring → OfAll Q W.copies → OfAll Q (last W es).copies

@@ -34,19 +34,21 @@ done_last c ls h e = subst (λ ks. IsClosed (ks ++ c.to_put)) e h
 load_closed : (b : Bool) (c : CopyLink) (l : Load) (ls : List Load) → c.loads ≡ l ∷ ls → Closes c → Closes (load_taken b c)
 load_closed b c l ls e h = subst (λ ks. IsClosed (drop 1 ks ++ c.to_put)) (sym e) (tail_closed l ls c.to_put (subst (λ ks. IsClosed (ks ++ c.to_put)) e h))
 
-each : EachKept (λ w. ⊤) Closes
-each = record {
+pub closes_each : EachKept (λ w. ⊤) Closes
+closes_each = record {
   opens = λ w x n _. items_closed (member_at w x).mirror.queue.items;
-  puts = λ c some can h. subst IsClosed (sym (append_assoc c.loads (take 1 c.to_put) (drop 1 c.to_put) ∙ ap (λ ls. c.loads ++ ls) (take-append-drop 1 c.to_put))) h;
-  gains = λ c some h. h;
-  items = λ b a c ls e h. load_closed b c (OneItem a) ls e h;
-  done = λ b c ls e h. load_closed b c Done ls e h;
-  drops = λ c h. h;
-  halts = λ c h. h;
-  closes = λ c h. h;
-  frees = λ c h. h;
+  steps = record {
+    puts = λ c some can h. subst IsClosed (sym (append_assoc c.loads (take 1 c.to_put) (drop 1 c.to_put) ∙ ap (λ ls. c.loads ++ ls) (take-append-drop 1 c.to_put))) h;
+    gains = λ c some h. h;
+    items = λ b a c ls e h. load_closed b c (OneItem a) ls e h;
+    done = λ b c ls e h. load_closed b c Done ls e h;
+    drops = λ c h. h;
+    halts = λ c h. h;
+    closes = λ c h. h;
+    frees = λ c h. h;
+  };
 }
 
 -- in every state of every run
 pub copies_are_closed : (w : World) (es : List CopyEvent) → IsRun (without_copies w) es → OfAll Closes (last (without_copies w) es).copies
-copies_are_closed w es r = run_kept (λ w. ⊤) Closes each (λ W e k p. tt) (without_copies w) es r tt (λ j bad. absurd (omega arith))
+copies_are_closed w es r = run_kept (λ w. ⊤) Closes closes_each (λ W e k p. tt) (without_copies w) es r tt (λ j bad. absurd (omega arith))

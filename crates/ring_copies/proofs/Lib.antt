@@ -2,6 +2,14 @@ pub mod Seen
 pub mod EachCopy
 pub mod Credit
 pub mod Ends
+pub mod Parts
+pub mod Sights
+pub mod SightSteps
+pub mod Stays
+pub mod Reached
+pub mod DoneRight
+pub mod Standing
+pub mod Kept
 pub mod Falls
 pub mod Runs
 pub mod Examples

@@ -1,19 +1,23 @@
 -- The laws of the ring with copies, over every run.
-use Rattle.std.proofs.Common.{◌≡◌, ℕ, ◌<◌, ◌≤◌, List, [], ◌∷◌, ◌++◌, length, None, refl, subst, ap, ◌∙◌, sym, arith}
+use Rattle.std.proofs.Common.{◌≡◌, ℕ, ◌+◌, ◌<◌, ◌≤◌, List, [], ◌∷◌, ◌++◌, length, None, refl, subst, ap, ◌∙◌, sym, arith}
 use Rattle.ring_names.specs.declared.numbers.CreditSpec.{CreditSpec}
 use Rattle.group_view.specs.Change.{AreOpeningNames}
+use Rattle.queue_core.specs.Queue.{greatest}
+use Rattle.ring_rules.specs.Machine.{World}
 use Rattle.ring_rules.specs.Step.{opening}
 use Rattle.ring_rules.specs.Act as ring
 use Rattle.ring_rules.specs.Laws.{IsLawful, GoesOn}
-use Rattle.ring_rules.specs.QueueLaws.{LaterMastersStart}
+use Rattle.ring_rules.specs.QueueLaws.{QueueIsRight, LaterMastersStart}
 use Rattle.ring_copies.specs.Copies.{CopyWorld}
 use Rattle.ring_copies.specs.Events.{CopyEvent, refusal, effect, IsRun, last, without_copies}
 use Rattle.ring_copies.specs.Laws.{IsLawfulWithCopies}
 use Rattle.ring_rules.proofs.runs.AllRuns.{every_state_lawful, every_run_goes_on}
 use Rattle.ring_rules.proofs.queue.Starts.{run_starts}
+use Rattle.ring_rules.proofs.queue.Runs.{run_queue_right}
 use Rattle.ring_copies.specs.Work.{total_with_copies, AreRepairsWithCopies}
 use Rattle.ring_rules.proofs.work.Fit.{IsFit, reached_fit}
 use Rattle.ring_copies.proofs.Falls.{repairs_lower_with_copies}
+use Rattle.ring_copies.proofs.Kept.{IsCopying, copying_reached}
 use Rattle.ring_copies.proofs.Seen.{RingRuns, ring_runs}
 use Rattle.ring_copies.proofs.Credit.{copies_keep_credit}
 
@@ -63,3 +67,16 @@ module _ (credit : CreditSpec) (names : List (List ℕ)) (are : AreOpeningNames 
 
   pub repairs_end_with_copies : (es steps : List CopyEvent) → IsRun first es → AreRepairsWithCopies (last first es) steps → length steps ≤ total_with_copies (last first es)
   repairs_end_with_copies es steps r k = repairs_end es (last first es) steps r refl k
+
+  -- ---- the queue
+
+  -- by as many events as acts or more
+  more_events : (m n : ℕ) (w : World) → m ≤ n → QueueIsRight m w → QueueIsRight n w
+  more_events m n w le q = record { agree = q.agree; stands = q.stands; above = q.above; few = λ x. omega (arith, le, q.few x) }
+
+  -- the mirrors agree, and confirmed messages stand, with copies as without
+  pub queue_right_with_copies : (es : List CopyEvent) → length es < greatest → IsRun first es → QueueIsRight (length es) (last first es).ring
+  queue_right_with_copies es few r =
+      let k : IsCopying credit names are (0 + length es) (last first es) = copying_reached credit names are es few r in
+      more_events (length k.come.acts) (length es) (last first es).ring (omega (arith, k.come.few))
+      (subst (QueueIsRight (length k.come.acts)) k.come.is (run_queue_right credit names k.come.acts are (omega (arith, k.come.few, few)) k.come.run k.come.right))

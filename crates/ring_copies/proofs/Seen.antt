@@ -34,7 +34,7 @@ one : (w w' : World) (a : Act) → ring.refusal w a ≡ None → ring.effect w a
 one w w' a r k = record { acts = a ∷ []; few = omega arith; run = (r, tt); ends = k }
 
 -- what happens at a place that may be there leaves the ring
-found_ring : (W : CopyWorld) (o : Option ℕ) (f : ℕ → CopyWorld) → ((i : ℕ) → (f i).ring ≡ W.ring) → (where_found o W f).ring ≡ W.ring
+pub found_ring : (W : CopyWorld) (o : Option ℕ) (f : ℕ → CopyWorld) → ((i : ℕ) → (f i).ring ≡ W.ring) → (where_found o W f).ring ≡ W.ring
 found_ring W None f h = refl
 found_ring W (Some i) f h = h i
 

@@ -1,10 +1,11 @@
 //! The laws of a ring with copies, over all runs.
-ghost use Rattle.std.specs.Prelude.{ℕ, List, length, ◌≤◌};
+ghost use Rattle.std.specs.Prelude.{ℕ, List, length, ◌<◌, ◌≤◌};
+ghost use Rattle.queue_core.specs.Queue.{greatest};
 ghost use Rattle.ring_names.specs.declared.numbers.CreditSpec.{CreditSpec};
 ghost use Rattle.group_view.specs.Change.{AreOpeningNames};
 ghost use Rattle.ring_rules.specs.Step.{opening};
 ghost use Rattle.ring_rules.specs.Laws.{GoesOn};
-ghost use Rattle.ring_rules.specs.QueueLaws.{LaterMastersStart};
+ghost use Rattle.ring_rules.specs.QueueLaws.{QueueIsRight, LaterMastersStart};
 ghost use Rattle.ring_copies.specs.Events.{CopyEvent, IsRun, last, without_copies};
 ghost use Rattle.ring_copies.specs.Laws.{IsLawfulWithCopies};
 ghost use Rattle.ring_copies.specs.Work.{AreRepairsWithCopies, total_with_copies};
@@ -31,6 +32,16 @@ pub fn later_masters_start_first_with_copies()
     ensures { (credit : CreditSpec) (names : List (List ℕ)) (events : List CopyEvent)
         → AreOpeningNames names → IsRun (without_copies (opening credit names)) events
         → LaterMastersStart (last (without_copies (opening credit names)) events).ring }
+{}
+
+/// Whatever is copied, to whom and when: of what two members have seen of the queue one is the beginning of the other, and
+/// each mirror that a copy has made holds the queue; and each message that has come round, and that nobody has
+/// acknowledged, stands in every synchronised mirror of a member that is up, one that a copy made too.
+pub fn every_queue_is_right_with_copies()
+    ensures { (credit : CreditSpec) (names : List (List ℕ)) (events : List CopyEvent)
+        → AreOpeningNames names → length events < greatest
+        → IsRun (without_copies (opening credit names)) events
+        → QueueIsRight (length events) (last (without_copies (opening credit names)) events).ring }
 {}
 
 /// Of steps of repair, of the ring and of its copies, no more can follow each other than `total_with_copies` says.

@@ -5,6 +5,6 @@
 mod laws;
 
 pub use laws::{
-    every_state_is_lawful_with_copies, later_masters_start_first_with_copies,
-    nothing_falls_with_copies, repairs_end_with_copies,
+    every_queue_is_right_with_copies, every_state_is_lawful_with_copies,
+    later_masters_start_first_with_copies, nothing_falls_with_copies, repairs_end_with_copies,
 };
