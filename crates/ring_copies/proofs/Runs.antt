@@ -7,14 +7,18 @@ use Rattle.ring_rules.specs.Machine.{World}
 use Rattle.ring_rules.specs.Step.{opening}
 use Rattle.ring_rules.specs.Act as ring
 use Rattle.ring_rules.specs.Laws.{IsLawful, GoesOn}
+use Rattle.ring_rules.specs.Idle.{IsIdle}
+use Rattle.ring_rules.specs.Quiet.{IsQuiet}
 use Rattle.ring_rules.specs.QueueLaws.{QueueIsRight, LaterMastersStart}
 use Rattle.ring_copies.specs.Copies.{CopyWorld}
-use Rattle.ring_copies.specs.Events.{CopyEvent, refusal, effect, IsRun, last, without_copies}
+use Rattle.ring_copies.specs.Events.{CopyEvent, OfRing, refusal, effect, IsRun, last, without_copies}
 use Rattle.ring_copies.specs.Laws.{IsLawfulWithCopies}
 use Rattle.ring_rules.proofs.runs.AllRuns.{every_state_lawful, every_run_goes_on}
 use Rattle.ring_rules.proofs.queue.Starts.{run_starts}
 use Rattle.ring_rules.proofs.queue.Runs.{run_queue_right}
-use Rattle.ring_copies.specs.Work.{total_with_copies, AreRepairsWithCopies}
+use Rattle.ring_copies.specs.Work.{total_with_copies, AreRepairsWithCopies, NothingLeftWithCopies}
+use Rattle.ring_rules.proofs.queue.Known.{run_idle_is_quiet}
+use Rattle.ring_rules.proofs.work.Settling.{none_left_is_idle}
 use Rattle.ring_rules.proofs.work.Fit.{IsFit, reached_fit}
 use Rattle.ring_copies.proofs.Falls.{repairs_lower_with_copies}
 use Rattle.ring_copies.proofs.Kept.{IsCopying, copying_reached}
@@ -80,3 +84,13 @@ module _ (credit : CreditSpec) (names : List (List ℕ)) (are : AreOpeningNames 
       let k : IsCopying credit names are (0 + length es) (last first es) = copying_reached credit names are es few r in
       more_events (length k.come.acts) (length es) (last first es).ring (omega (arith, k.come.few))
       (subst (QueueIsRight (length k.come.acts)) k.come.is (run_queue_right credit names k.come.acts are (omega (arith, k.come.few, few)) k.come.run k.come.right))
+
+  -- ---- rest
+
+  -- where nothing is left to do the ring is quiet
+  pub quiet_with_copies : (es : List CopyEvent) → length es < greatest → IsRun first es → NothingLeftWithCopies (last first es) → IsQuiet (last first es).ring
+  quiet_with_copies es few r none =
+      let k : IsCopying credit names are (0 + length es) (last first es) = copying_reached credit names are es few r in
+      let fit : IsFit (last first es).ring = subst IsFit k.come.is (reached_fit credit names k.come.acts are k.come.run) in
+      subst (λ w. IsIdle w → IsQuiet w) k.come.is (run_idle_is_quiet credit names k.come.acts are (omega (arith, k.come.few, few)) k.come.run k.come.right)
+      (none_left_is_idle (last first es).ring fit (λ e is. none (OfRing e) is))

@@ -1,5 +1,5 @@
 -- How much the copies of a ring still have to do.
-use Rattle.std.specs.Prelude.{◌≡◌, ℕ, ◌+◌, ◌*◌, ◌==◌, if◌then◌else◌, Bool, true, false, length, List, [], ◌∷◌, None, ⊤}
+use Rattle.std.specs.Prelude.{◌≡◌, ◌≢◌, ℕ, ◌+◌, ◌*◌, ◌==◌, if◌then◌else◌, Bool, true, false, length, List, [], ◌∷◌, None, ⊤}
 use Rattle.ring_rules.specs.Rows.{Flow}
 use Rattle.ring_rules.specs.Work.{sum_below, total}
 use Rattle.ring_rules.specs.Settling.{is_repair}
@@ -38,3 +38,7 @@ is_repair_with_copies W (RefusesCopy code by target) = false
 abbrev pub AreRepairsWithCopies : CopyWorld → List CopyEvent → Type 0
 AreRepairsWithCopies W [] = ⊤
 AreRepairsWithCopies W (e ∷ es) = (is_repair_with_copies W e ≡ true) × ((refusal W e ≡ None) × AreRepairsWithCopies (effect W e) es)
+
+-- no event of repair is enabled, of the ring or of a copy
+abbrev pub NothingLeftWithCopies : CopyWorld → Type 0
+NothingLeftWithCopies W = (e : CopyEvent) → is_repair_with_copies W e ≡ true → refusal W e ≢ None
