@@ -10,6 +10,7 @@ pub mod Reached
 pub mod DoneRight
 pub mod Standing
 pub mod Kept
+pub mod Others
 pub mod Falls
 pub mod Runs
 pub mod Examples
