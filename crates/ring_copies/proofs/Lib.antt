@@ -11,6 +11,7 @@ pub mod DoneRight
 pub mod Standing
 pub mod Kept
 pub mod Others
+pub mod Fits
 pub mod Falls
 pub mod Runs
 pub mod Examples

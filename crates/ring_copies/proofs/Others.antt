@@ -5,6 +5,7 @@ use Rattle.ring_names.specs.declared.reason.Reason.{Reason}
 use Rattle.queue_core.specs.declared.op.Op.{Op}
 use Rattle.queue_core.specs.declared.message.Message.TheVariants as message
 use Rattle.credit_flow.specs.Credit.{is_blocked}
+use Rattle.queue_mirror.specs.Mirror.{MirrorState}
 use Rattle.group_view.specs.View.{Group}
 use Rattle.group_view.specs.Since.{no_group}
 use Rattle.group_view.specs.Change.{marked}
@@ -15,7 +16,7 @@ use Rattle.ring_rules.specs.declared.kind.LinkStep.TheVariants as step
 use Rattle.ring_rules.specs.declared.kind.ViewChange.TheVariants as change
 use Rattle.ring_rules.specs.View.{right_of}
 use Rattle.ring_rules.specs.Machine.{Member, Link, World, no_member, no_link, member_at, link_at, view_in, newest, runs, runs_phase, oldest}
-use Rattle.ring_rules.specs.Step.{size, publish_at, published, put_on, take_from, taker, begin_from, begun, leave_link, finished, gain_on, current_is, with_current, stop_at, stopped, end_out, ended, popped, with_member, with_link, with_view, look_at, moved_to, open_to, opened_link, come_to, joiner, admitted_view}
+use Rattle.ring_rules.specs.Step.{size, publish_at, published, put_on, take_from, taker, begin_from, begun, leave_link, finished, gain_on, current_is, with_current, stop_at, stopped, end_out, ended, popped, with_member, with_link, with_view, look_at, moved_to, open_to, opened_link, come_to, joiner, admitted_view, copied, copied_at}
 use Rattle.ring_rules.specs.Kind.{Kind, Says, Steps, Changes, Stops, Reads, Tells, Saying, Own, OfQueue}
 use Rattle.ring_rules.specs.Event.{id_of, at_found, at_door, op_as, op_done, said, taken_by, done_as, refreshed, erased_view, synced_view}
 use Rattle.ring_rules.proofs.events.Composed.{end_composed, refresh_composed}
@@ -33,6 +34,7 @@ pub record Leaves (w : World) (x : ℕ) (stops : Bool) (w' : World) : Type 0 whe
   pub alive : (q : ℕ) → q < size w → (q ≡ x → stops ≡ false) → runs w q ≡ true → runs w' q ≡ true
   -- the views stay
   pub views : (v : ℕ) → v < length w.views → view_in w' v ≡ view_in w v
+  pub longer : length w.views ≤ length w'.views
   -- and whether another is blocked
   pub blocked : (q : ℕ) → q < size w → q ≢ x → is_blocked_at w' q ≡ is_blocked_at w q
 
@@ -94,7 +96,7 @@ refreshed_alive u x v q = refresh_composed (λ t. runs t q ≡ runs u q) u x v (
 -- ---- each kind
 
 same : (w : World) (x : ℕ) (b : Bool) → Leaves w x b w
-same w x b = record { alive = λ q lt n r. r; views = λ v lt. refl; blocked = λ q lt ne. refl }
+same w x b = record { alive = λ q lt n r. r; views = λ v lt. refl; longer = omega arith; blocked = λ q lt ne. refl }
 
 found : (w : World) (x : ℕ) (b : Bool) (o : Option ℕ) (f : ℕ → World) → ((s : ℕ) → o ≡ Some s → Leaves w x b (f s)) → Leaves w x b (at_found o w f)
 found w x b None f h = same w x b
@@ -105,20 +107,22 @@ written : (w : World) (x : ℕ) (y : Member) (w' : World) → w'.members ≡ (wi
 written w x y w' members views runs_on left = record {
   alive = λ q lt n r. ap (λ ms. runs_phase (get_or ms q no_member).phase) members ∙ member_leaves (λ _ a b. runs_phase a.phase ≡ true → runs_phase b.phase ≡ true) w x y runs_on (λ _ k. k) q r;
   views = λ v lt. ap (λ vs. get_or vs v no_group) views;
+  longer = omega (arith, ap length views);
   blocked = left_blocked w x w' left;
 }
 
-looks : (w u : World) (x v : ℕ) → OwnEnds w → IsLeft w x u → ((q : ℕ) → q < size w → member_at u q ≡ member_at w q) → ((k : ℕ) → k < length w.views → view_in u k ≡ view_in w k) → Leaves w x false (refreshed u x v)
-looks w u x v own k old views = record {
+looks : (w u : World) (x v : ℕ) → OwnEnds w → IsLeft w x u → ((q : ℕ) → q < size w → member_at u q ≡ member_at w q) → ((k : ℕ) → k < length w.views → view_in u k ≡ view_in w k) → length w.views ≤ length u.views → Leaves w x false (refreshed u x v)
+looks w u x v own k old views longer = record {
   alive = λ q lt n r. refreshed_alive u x v q ∙ ap (λ (a : Member). runs_phase a.phase) (old q lt) ∙ r;
   views = λ j lt. ap (λ vs. get_or vs j no_group) (refreshed_views u x v) ∙ views j lt;
+  longer = omega (arith, longer, ap length (refreshed_views u x v));
   blocked = left_blocked w x (refreshed u x v) (refreshed_left w u x v own k);
 }
 
 -- a view comes, and x reads it
 view_comes : (w : World) (x : ℕ) (g : Group) → OwnEnds w → Leaves w x false (refreshed (with_view w g) x (newest w + 1))
 view_comes w x g own = looks w (with_view w g) x (newest w + 1) own (record { out = λ q lt ne. refl; credit = λ q o lt ne e. refl; more = omega arith }) (λ q lt. refl)
-    (λ j lt. get_or_append_left w.views (g ∷ []) no_group j lt)
+    (λ j lt. get_or_append_left w.views (g ∷ []) no_group j lt) (omega (arith, length_push w.views g))
 
 says : (w : World) (x : ℕ) (s : Saying) → Leaves w x false (said w x s)
 says w x (Own body) = written w x (published x (message.Cast body) (member_at w x)) (publish_at w x (message.Cast body)) refl refl (λ r. r) (member_left w x _)
@@ -136,6 +140,7 @@ own_link : (w : World) (x o : ℕ) (l : Link) → OwnEnds w → (member_at w x).
 own_link w x o l own out = record {
   alive = λ q lt n r. r;
   views = λ v lt. refl;
+  longer = omega arith;
   blocked = left_blocked w x (with_link w o l) (link_left w x w o l (here w x) (λ q lt ne e. absurd (other_out w x q o o own out e ne refl)));
 }
 
@@ -155,7 +160,7 @@ kind_leaves w x (Changes (change.Mark dead)) own = found w x false (id_of w dead
 kind_leaves w x (Changes (change.Erase origin)) own = found w x false (id_of w origin) _ (λ p e. view_comes w x (erased_view w p) own)
 kind_leaves w x (Changes (change.Admit name)) own = looks w (come_to w x name) x (newest w + 1) own
     (record { out = λ q lt ne. ap (λ (a : Member). a.out) (old q lt); credit = λ q o lt ne e. refl; more = omega arith }) old
-    (λ j lt. get_or_append_left w.views (admitted_view w x name ∷ []) no_group j lt)
+    (λ j lt. get_or_append_left w.views (admitted_view w x name ∷ []) no_group j lt) (omega (arith, length_push w.views (admitted_view w x name)))
   where
     old : (q : ℕ) → q < size w → member_at (come_to w x name) q ≡ member_at w q
     old q lt = get_or_append_left w.members (joiner w name ∷ []) no_member q lt
@@ -163,10 +168,15 @@ kind_leaves w x (Changes change.Register) own = view_comes w x (synced_view w x)
 kind_leaves w x Stops own = record {
   alive = λ q lt n r. ap (λ ms. runs_phase (get_or ms q no_member).phase) members ∙ member_leaves (λ i a b. (i ≡ x → true ≡ false) → runs_phase a.phase ≡ true → runs_phase b.phase ≡ true) w x (stopped (member_at w x)) (λ n _. absurd (let bad : true ≡ false = n refl in cc)) (λ _ _ k. k) q n r;
   views = λ v lt. ap (λ vs. get_or vs v no_group) (end_composed (λ t. t.views ≡ w.views) Halted (stop_at w x) (member_at w x).out (λ o e k. k) refl);
+  longer = omega (arith, ap length (end_composed (λ t. t.views ≡ w.views) Halted (stop_at w x) (member_at w x).out (λ o e k. k) refl));
   blocked = left_blocked w x _ (end_composed (IsLeft w x) Halted (stop_at w x) (member_at w x).out (λ o e k. link_left w x (stop_at w x) o (ended Halted (link_at w o)) k (λ q lt ne out. refl)) (member_left w x (stopped (member_at w x))));
 }
   where
     members : (end_out Halted (stop_at w x) (member_at w x).out).members ≡ (stop_at w x).members
     members = end_composed (λ t. t.members ≡ (stop_at w x).members) Halted (stop_at w x) (member_at w x).out (λ o e k. refl) refl
-kind_leaves w x (Reads version) own = looks w w x version own (here w x) (λ q lt. refl) (λ j lt. refl)
+kind_leaves w x (Reads version) own = looks w w x version own (here w x) (λ q lt. refl) (λ j lt. refl) (omega arith)
 kind_leaves w x (Tells code inner) own = same w x false
+
+-- a copy that is done
+pub copied_leaves : (w : World) (x : ℕ) (m : MirrorState) → Leaves w x false (copied_at w x m)
+copied_leaves w x m = written w x (copied m (member_at w x)) (copied_at w x m) refl refl (λ r. r) (member_left w x _)

@@ -5,6 +5,7 @@ use Rattle.std.proofs.lemmas.List.{get_or_append_left, get_or-set_other}
 use Rattle.ring_names.specs.declared.reason.Reason.{Reason}
 use Rattle.queue_core.specs.declared.op.Op.{Op}
 use Rattle.queue_core.specs.declared.message.Message.TheVariants as message
+use Rattle.queue_mirror.specs.Mirror.{MirrorState}
 use Rattle.group_view.specs.Change.{marked}
 use Rattle.ring_rules.specs.declared.phase.Phase.{Phase}
 use Rattle.ring_rules.specs.declared.phase.Phase.TheVariants.{Waiting, Up, Stopped}
@@ -13,7 +14,7 @@ use Rattle.ring_rules.specs.declared.kind.LinkStep.TheVariants as step
 use Rattle.ring_rules.specs.declared.kind.ViewChange.TheVariants as change
 use Rattle.ring_rules.specs.View.{right_of}
 use Rattle.ring_rules.specs.Machine.{Member, World, no_member, member_at, link_at, view_in, newest, runs, runs_phase, oldest}
-use Rattle.ring_rules.specs.Step.{size, publish_at, published, put_on, take_from, taker, begin_from, begun, leave_link, current_is, with_current, stop_at, stopped, end_out, with_member, with_view, moved_to, opened_link, come_to, joiner}
+use Rattle.ring_rules.specs.Step.{size, publish_at, published, put_on, take_from, taker, begin_from, begun, leave_link, current_is, with_current, stop_at, stopped, end_out, with_member, with_view, moved_to, opened_link, come_to, joiner, copied, copied_at}
 use Rattle.ring_rules.specs.Kind.{Kind, Says, Steps, Changes, Stops, Reads, Tells, Saying, Own, OfQueue}
 use Rattle.ring_rules.specs.Event.{id_of, at_found, at_door, op_as, op_done, said, taken_by, done_as, refreshed, erased_view, synced_view}
 use Rattle.ring_rules.proofs.events.Composed.{end_composed, refresh_composed}
@@ -103,3 +104,7 @@ kind_stays w x Stops = written w x false (stopped (member_at w x)) (end_out Halt
     (end_composed (λ v. v.members ≡ (stop_at w x).members) Halted (stop_at w x) (member_at w x).out (λ o e k. refl) refl) (λ r. absurd (false≢true r)) refl
 kind_stays w x (Reads version) = looks w w x version (λ q lt. refl)
 kind_stays w x (Tells code inner) = same w x false
+
+-- a copy that is done
+pub copied_stays : (w : World) (x : ℕ) (m : MirrorState) → Stays w x false (copied_at w x m)
+copied_stays w x m = written w x false (copied m (member_at w x)) (copied_at w x m) refl (λ r. r) refl
