@@ -369,7 +369,7 @@ module _ (credit : CreditSpec) (names : List (List ℕ)) (are : AreOpeningNames 
 
   -- ---- every event, and every run
 
-  event_known : (n : ℕ) (W : CopyWorld) (e : CopyEvent) → n < greatest - 1 → IsCopying n W → refusal W e ≡ None → IsCopying (n + 1) (effect W e)
+  pub event_known : (n : ℕ) (W : CopyWorld) (e : CopyEvent) → n < greatest - 1 → IsCopying n W → refusal W e ≡ None → IsCopying (n + 1) (effect W e)
   event_known n W (OfRing e) few k r = ring_event n W e few k r
   event_known n W (OnCopy by s) few k r = by_member (id_of W.ring by) refl r (effect_kept (λ w. ⊤) Closes closes_each W (OnCopy by s) tt r k.closed)
     where
@@ -389,11 +389,14 @@ module _ (credit : CreditSpec) (names : List (List ℕ)) (are : AreOpeningNames 
       subst (λ m. IsCopying m (last (effect W e) es)) (let same : n + 1 + length es ≡ n + length (e ∷ es) = omega arith in same)
       (run_known (n + 1) (effect W e) es (omega (arith, few)) (event_known n W e (omega (arith, few)) k r.0) r.1)
 
-  -- in every state of every run
-  pub copying_reached : (es : List CopyEvent) → length es < greatest → IsRun (without_copies (opening credit names)) es → IsCopying (0 + length es) (last (without_copies (opening credit names)) es)
-  copying_reached es few r = run_known 0 (without_copies (opening credit names)) es (omega (arith, few)) (record {
+  pub opening_copying : IsCopying 0 (without_copies (opening credit names))
+  opening_copying = record {
     come = opening_come credit names are;
     sighted = opening_sighted credit names are;
     closed = λ i il. absurd (omega arith);
     stands = λ i il. absurd (omega arith);
-  }) r
+  }
+
+  -- in every state of every run
+  pub copying_reached : (es : List CopyEvent) → length es < greatest → IsRun (without_copies (opening credit names)) es → IsCopying (0 + length es) (last (without_copies (opening credit names)) es)
+  copying_reached es few r = run_known 0 (without_copies (opening credit names)) es (omega (arith, few)) opening_copying r

@@ -12,6 +12,7 @@ pub mod Standing
 pub mod Kept
 pub mod Others
 pub mod Fits
+pub mod Fitting
 pub mod Falls
 pub mod Runs
 pub mod Examples
