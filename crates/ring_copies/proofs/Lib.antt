@@ -13,6 +13,7 @@ pub mod Kept
 pub mod Others
 pub mod Fits
 pub mod Fitting
+pub mod Rest
 pub mod Falls
 pub mod Runs
 pub mod Examples

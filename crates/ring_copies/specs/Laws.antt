@@ -1,5 +1,6 @@
 -- The laws of copies.
-use Rattle.std.specs.Prelude.{ℕ, ◌<◌, length}
+use Rattle.std.specs.Prelude.{◌≡◌, ℕ, ◌<◌, true, false, [], length}
+use Rattle.ring_rules.specs.Machine.{runs}
 use Rattle.credit_flow.specs.Link.{Link as CreditLink, KeepsCredit as KeepsLoads}
 use Rattle.ring_rules.specs.Laws.{IsLawful}
 use Rattle.ring_copies.specs.Copies.{CopyLink, CopyWorld, copy_link_at}
@@ -17,3 +18,9 @@ CopiesKeepCredit initial W = (i : ℕ) → i < length W.copies → KeepsLoads in
 pub record IsLawfulWithCopies (initial : ℕ) (W : CopyWorld) : Type 0 where
   pub ring : IsLawful initial W.ring
   pub credit : CopiesKeepCredit initial W
+
+-- No copy is under way at a running member: of one that isn't over, a running master has nothing to put, and the mirror doesn't
+-- run.
+pub record CopiesRest (W : CopyWorld) : Type 0 where
+  pub put : (i : ℕ) → i < length W.copies → (copy_link_at W.copies i).over ≡ false → runs W.ring (copy_link_at W.copies i).sender ≡ true → (copy_link_at W.copies i).to_put ≡ []
+  pub taken : (i : ℕ) → i < length W.copies → (copy_link_at W.copies i).over ≡ false → runs W.ring (copy_link_at W.copies i).receiver ≡ false

@@ -1,0 +1,181 @@
+-- Where nothing is left to do, no copy is under way at a running member.
+use Rattle.std.proofs.Common.{◌≡◌, ◌≢◌, ℕ, zero, suc, ◌+◌, ◌<◌, ◌≤◌, Bool, true, false, not, cond, nat_eq, nat_lt, List, [], ◌∷◌, ◌++◌, length, get_or, refl, sym, ap, ◌∙◌, subst, arith, ⊎_elim, inl, inr, Option, Some, None, position}
+use Rattle.std.specs.List.{position_or_len}
+use Rattle.std.specs.Prelude.{◌&&◌, ◌⊎◌}
+use Rattle.std.proofs.lemmas.Bool.{false≢true, cases_lt, lt-ltb}
+use Rattle.std.proofs.lemmas.Bool.Decides.{nat_tests}
+use Rattle.std.proofs.lemmas.List.Elements.{All-get_or}
+use Rattle.std.proofs.lemmas.List.Quantifiers.{position-Some}
+use Rattle.ring_names.specs.declared.reason.Reason.{Reason}
+use Rattle.ring_names.specs.declared.reason.Reason.TheVariants as reason
+use Rattle.credit_flow.specs.Credit.{is_blocked}
+use Rattle.queue_sync.specs.Copy.{Load, OneItem, Done}
+use Rattle.group_view.specs.declared.entry.Entry.{Entry}
+use Rattle.group_view.specs.declared.entry.Mark.{Mark}
+use Rattle.group_view.specs.declared.entry.Mark.TheVariants.{Live, Dead, Erased}
+use Rattle.group_view.specs.Ring.{is_in}
+use Rattle.group_view.specs.View.{Group, ids, entry_in, no_entry, is_erased, is_live_mark, is_erased_mark}
+use Rattle.group_view.proofs.Rings.{nat_eq-is, nat_eq-same}
+use Rattle.group_view.proofs.Passing.{live_in}
+use Rattle.ring_rules.specs.declared.phase.Phase.TheVariants.{Up}
+use Rattle.ring_rules.specs.View.{is_live}
+use Rattle.ring_rules.specs.Refusal.{or_else, is_empty}
+use Rattle.ring_rules.specs.Machine.{Member, World, member_at, link_at, row_at, view_in, newest, runs, runs_phase}
+use Rattle.ring_rules.specs.Step.{size, log_of}
+use Rattle.ring_rules.specs.Event.{id_of, of_member, on_link, up_refusal, version_refusal}
+use Rattle.ring_rules.specs.Quiet.{IsSettled, IsAtRest}
+use Rattle.ring_rules.specs.QueuePart.{got_of, part_of}
+use Rattle.ring_rules.proofs.rests.Asked.{is_refused, no_version, none_left}
+use Rattle.ring_rules.proofs.rests.Forgotten.{retired_is_forgotten}
+use Rattle.ring_rules.proofs.walks.Put.{number_up}
+use Rattle.ring_rules.proofs.walks.Ended.{runs_lt}
+use Rattle.ring_rules.proofs.queue.Facts.{Facts}
+use Rattle.ring_rules.proofs.work.Fit.{IsFit}
+use Rattle.ring_copies.specs.Copies.{CopyLink, CopyWorld, no_copy_link, copy_link_at, copy_in, copy_out, is_put_by, is_taken_by, is_blocked_at}
+use Rattle.ring_copies.specs.Events.{CopyEvent, CopyStep, OnCopy, Puts, Takes, Gains, copy_put_refusal, copy_gain_refusal, copy_take_refusal, is_done_next, step_refusal, refused_in, refusal}
+use Rattle.ring_copies.specs.Laws.{CopiesKeepCredit, CopiesRest}
+use Rattle.ring_copies.specs.Work.{NothingLeftWithCopies}
+use Rattle.ring_copies.proofs.EachCopy.{OfAll}
+use Rattle.ring_copies.proofs.Sights.{part_runs}
+use Rattle.ring_copies.proofs.Standing.{CopyStands}
+use Rattle.ring_copies.proofs.Kept.{Stands}
+use Rattle.ring_copies.proofs.Fits.{HasDone, Fits, MayFit}
+
+-- what holds of each entry holds of that of an id
+entry_of : (P : Entry → Type 0) (es : List Entry) (p : ℕ) → ((k : ℕ) → k < length es → P (get_or es k no_entry)) → is_in p (ids es) ≡ true → P (entry_in es p) × ((entry_in es p).id.0 ≡ p)
+entry_of P [] p each i = absurd (false≢true i)
+entry_of P (e ∷ es) p each i = by_id (nat_eq e.id.0 p) refl (λ there. entry_of P es p (λ j jl. each (suc j) (omega arith)) there)
+  where
+    by_id : (b : Bool) → nat_eq e.id.0 p ≡ b → (is_in p (ids es) ≡ true → P (entry_in es p) × ((entry_in es p).id.0 ≡ p)) → P (cond b e (entry_in es p)) × ((cond b e (entry_in es p)).id.0 ≡ p)
+    by_id true k later = (each zero (omega arith), nat_eq-is e.id.0 p k)
+    by_id false k later = later (ap (λ b. cond b true (is_in p (ids es))) (sym flip) ∙ i)
+      where
+        flip : nat_eq p e.id.0 ≡ false
+        flip = grind (arith, nat_tests, k)
+
+live_mark : (m : Mark) → is_live_mark m ≡ true → m ≡ Live
+live_mark Live e = refl
+live_mark Dead e = absurd (false≢true e)
+live_mark Erased e = absurd (false≢true e)
+
+not_gone : (m : Mark) → m ≢ Dead → is_erased_mark m ≡ false → m ≡ Live
+not_gone Live d e = refl
+not_gone Dead d e = absurd (d refl)
+not_gone Erased d e = absurd (false≢true (sym e))
+
+-- the first that passes isn't later than one that does
+first_within : (t : CopyLink → Bool) (cs : List CopyLink) (k : ℕ) → k < length cs → t (copy_link_at cs k) ≡ true → position_or_len t cs ≤ k
+first_within t [] k lt h = absurd (omega arith)
+first_within t (c ∷ cs) k lt h = by_case (t c) refl k lt h (λ j l e. first_within t cs j l e)
+  where
+    by_case : (b : Bool) → t c ≡ b → (k : ℕ) → k < length (c ∷ cs) → t (copy_link_at (c ∷ cs) k) ≡ true → ((j : ℕ) → j < length cs → t (copy_link_at cs j) ≡ true → position_or_len t cs ≤ j) → cond (not b) (1 + position_or_len t cs) 0 ≤ k
+    by_case true e k l h ih = omega arith
+    by_case false e zero l h ih = absurd (false≢true (sym e ∙ h))
+    by_case false e (suc k) l h ih = omega (arith, ih k (omega arith) h)
+
+first_upto : (t : CopyLink → Bool) (cs : List CopyLink) (i : ℕ) → i < length cs → t (copy_link_at cs i) ≡ true → (j : ℕ) × ((position t cs ≡ Some j) × (j ≤ i))
+first_upto t cs i il ti =
+    let n : ℕ = position_or_len t cs in
+    let le : n ≤ i = first_within t cs i il ti in
+    (n, (ap (λ b. cond b (Some n) None) (lt-ltb n (length cs) (omega (arith, le, il))), le))
+
+module _ (initial : ℕ) (W : CopyWorld) (f : Facts W.ring) (fit : IsFit W.ring) (rest : IsAtRest W.ring) (credit : CopiesKeepCredit initial W) (stands : OfAll (Stands W.ring) W.copies) (fits : OfAll (MayFit W.ring) W.copies)
+    (free : (y : ℕ) → runs W.ring y ≡ true → is_blocked_at W.ring y ≡ false) (none : NothingLeftWithCopies W) where
+  abbrev w : World
+  w = W.ring
+
+  abbrev v : Group
+  v = view_in w (newest w)
+
+  -- who is live in the newest view runs
+  live_runs : (n : ℕ) → is_live v n ≡ true → runs w n ≡ true
+  live_runs n e =
+      let k = entry_of (IsSettled w) v.entries n (λ j jl. All-get_or (IsSettled w) v.entries j no_entry jl rest.entries) (live_in v.entries n e) in
+      ap (runs w) (sym k.1) ∙ k.0.runs (live_mark (entry_in v.entries n).mark e)
+
+  -- and who isn't erased
+  unerased_runs : (n : ℕ) → 1 ≤ n → n < size w → (is_in n (ids v.entries) && is_erased v.entries n) ≡ false → runs w n ≡ true
+  unerased_runs n some lt e =
+      let there : is_in n (ids v.entries) ≡ true = f.good.inv.origins n some lt in
+      let k = entry_of (IsSettled w) v.entries n (λ j jl. All-get_or (IsSettled w) v.entries j no_entry jl rest.entries) there in
+      ap (runs w) (sym k.1) ∙ k.0.runs (not_gone (entry_in v.entries n).mark k.0.not_dead (sym (ap (λ b. b && is_erased v.entries n) there) ∙ e))
+
+  -- a step on a copy that would be enabled of its member
+  no_step : (y : ℕ) → 1 ≤ y → runs w y ≡ true → (s : CopyStep) → (refusal W (OnCopy (member_at w y).name s) ≢ None) → step_refusal W y s ≢ None
+  no_step y some ry s stuck r = stuck
+      (ap (λ o. of_member o (refused_in W (OnCopy (member_at w y).name s))) (fit.named y some (runs_lt w y ry)) ∙ (rw ((rest.members y ry).up, r) refl))
+
+  test : CopyLink → Bool
+  test c = not c.over && runs w c.receiver
+
+  both : (a b : Bool) → (a && b) ≡ true → (a ≡ true) × (b ≡ true)
+  both true b e = (refl, e)
+  both false b e = absurd (false≢true e)
+
+  not_true : (b : Bool) → not b ≡ true → b ≡ false
+  not_true false e = refl
+  not_true true e = absurd (false≢true e)
+
+  -- the first copy with a running mirror that isn't over: there is none
+  module _ (i : ℕ) (il : i < length W.copies) (open_yet : (copy_link_at W.copies i).over ≡ false) (ry : runs w (copy_link_at W.copies i).receiver ≡ true)
+      (first : (j : ℕ) → j < i → (copy_link_at W.copies j).over ≡ false → runs w (copy_link_at W.copies j).receiver ≡ false) where
+    abbrev c : CopyLink
+    c = copy_link_at W.copies i
+
+    fc : Fits w c
+    fc = fits i il open_yet
+
+    sc : CopyStands w c
+    sc = stands i il open_yet
+
+    y_new : (member_at w c.receiver).version ≡ newest w
+    y_new = (rest.members c.receiver ry).newest
+
+    -- its master runs
+    rm : runs w c.sender ≡ true
+    rm = unerased_runs c.sender fc.some fc.sender (subst (λ n. (is_in c.sender (ids (view_in w n).entries) && is_erased (view_in w n).entries c.sender) ≡ false) y_new (sc.copied.unseen (part_runs w c.receiver ∙ ry)))
+
+    -- the mark has come
+    marked : c.mark ≤ (row_at (member_at w c.receiver) c.sender).got
+    marked =
+        let am = rest.members c.sender rm in
+        let forgot = retired_is_forgotten w c.sender f.good am.up fc.some rm in
+        let an = rest.members c.receiver ry in
+        let confirmed = f.lawful.confirmed.up c.receiver c.sender fc.some fc.sender an.up in
+        omega (arith, sc.copied.mark, am.come_round, forgot, confirmed)
+
+    -- it is the one from which its mirror takes
+    taken : is_taken_by c.receiver c ≡ true
+    taken = ap (λ b. b && not c.over) (nat_eq-same c.receiver) ∙ ap not open_yet
+
+    in_is : copy_in W.copies c.receiver ≡ Some i
+    in_is =
+        let q = first_upto (is_taken_by c.receiver) W.copies i il taken in
+        q.1.0 ∙ ap Some (upto q.0 q.1.0 q.1.1)
+      where
+        upto : (j : ℕ) → position (is_taken_by c.receiver) W.copies ≡ Some j → j ≤ i → j ≡ i
+        upto j e le = ⊎_elim
+            (λ (lt : j < i).
+            let t = both (nat_eq (copy_link_at W.copies j).receiver c.receiver) (not (copy_link_at W.copies j).over) (position-Some (is_taken_by c.receiver) W.copies j no_copy_link e).1 in
+            absurd (false≢true (sym (first j lt (not_true (copy_link_at W.copies j).over t.1)) ∙ ap (runs w) (nat_eq-is (copy_link_at W.copies j).receiver c.receiver t.0) ∙ ry)))
+            (λ (ge : i ≤ j). omega (arith, le, ge))
+            (cases_lt j i)
+
+    -- and has nothing to take from it
+    stuck : (is_empty c.loads && not c.ended) ≡ true
+    stuck = by_test (is_empty c.loads && not c.ended) refl
+      where
+        refused : copy_take_refusal w c.receiver c ≢ None
+        refused r = no_step c.receiver fc.least ry Takes (none (OnCopy (member_at w c.receiver).name Takes) refl)
+            (ap (λ o. on_link o reason.NoSyncLink (λ k. copy_take_refusal w c.receiver (copy_link_at W.copies k))) in_is ∙ r)
+
+        early : nat_lt (row_at (member_at w c.receiver) c.sender).got c.mark ≡ false
+        early = grind (arith, nat_tests, marked)
+
+        never : (b : Bool) → (b && false) ≡ false
+        never true = refl
+        never false = refl
+
+        by_test : (b : Bool) → (is_empty c.loads && not c.ended) ≡ b → b ≡ true
+        by_test true e = refl
+        by_test false e = absurd (refused (rw (no_version c.opened (member_at w c.receiver).version (omega (arith, fc.opened, y_new)), e, early, never (is_done_next c.loads)) refl))
