@@ -1,5 +1,5 @@
 -- What a copy under way has: its ends are members, Done is still to come, and who doesn't go on with it has a reason.
-use Rattle.std.proofs.Common.{◌≡◌, ◌≢◌, ℕ, ◌+◌, ◌<◌, ◌≤◌, Bool, true, false, not, cond, min, nat_eq, if◌then◌else◌, List, [], ◌∷◌, ◌++◌, length, refl, sym, ap, ◌∙◌, subst, arith, ⊎_elim, None}
+use Rattle.std.proofs.Common.{◌≡◌, ◌≢◌, ℕ, ◌+◌, ◌<◌, ◌≤◌, Bool, true, false, not, cond, min, nat_eq, if◌then◌else◌, List, [], ◌∷◌, ◌++◌, length, refl, sym, ap, ◌∙◌, subst, arith, ⊎_elim}
 use Rattle.std.specs.Prelude.{◌&&◌, take, drop, ⊤}
 use Rattle.std.proofs.lemmas.Bool.{cases_eq, cases_Bool, false≢true}
 use Rattle.std.proofs.lemmas.List.{append_assoc, take-append-drop}
@@ -9,7 +9,7 @@ use Rattle.group_view.proofs.Rings.{nat_eq-same}
 use Rattle.queue_core.specs.Queue.{Item}
 use Rattle.queue_sync.specs.Copy.{Load, OneItem, Done, loads_of}
 use Rattle.ring_rules.specs.Refusal.{is_empty}
-use Rattle.ring_rules.specs.Rows.{Flow, counted}
+use Rattle.ring_rules.specs.Rows.{counted}
 use Rattle.ring_rules.specs.View.{is_live}
 use Rattle.ring_rules.specs.Machine.{World, member_at, view_in, newest, runs}
 use Rattle.ring_rules.specs.Step.{size}
@@ -56,7 +56,11 @@ pub put_fits : (w : World) (c : CopyLink) → MayFit w c → MayFit w (copy_put 
 put_fits w c h o =
     let f : Fits w c = h o in
     record {
-      some = f.some; sender = f.sender; least = f.least; receiver = f.receiver; opened = f.opened;
+      some = f.some;
+      sender = f.sender;
+      least = f.least;
+      receiver = f.receiver;
+      opened = f.opened;
       finishes = subst HasDone (sym (append_assoc c.loads (take 1 c.to_put) (drop 1 c.to_put) ∙ ap (λ ls. c.loads ++ ls) (take-append-drop 1 c.to_put))) f.finishes;
       halted = λ r some. f.halted r (some_before c.to_put some);
       live = λ r some. f.live r (some_before c.to_put some);
@@ -74,7 +78,11 @@ pub item_fits : (w : World) (b : Bool) (a : Item) (c : CopyLink) (ls : List Load
 item_fits w b a c ls e is h o =
     let f : Fits w c = h o in
     record {
-      some = f.some; sender = f.sender; least = f.least; receiver = f.receiver; opened = f.opened;
+      some = f.some;
+      sender = f.sender;
+      least = f.least;
+      receiver = f.receiver;
+      opened = f.opened;
       finishes = subst (λ ks. HasDone (drop 1 ks ++ c.to_put)) (sym e) (subst (λ ks. HasDone (ks ++ c.to_put)) e f.finishes);
       halted = f.halted;
       live = f.live;
@@ -124,7 +132,14 @@ let_go_fits w x true cs is h = λ i il. held_fits (copy_link_at cs i) (h i il)
     held_fits c k o =
         let f : AlmostFits w x c = k o in
         record {
-          some = f.some; sender = f.sender; least = f.least; receiver = f.receiver; opened = f.opened; finishes = f.finishes; halted = f.halted; live = f.live;
+          some = f.some;
+          sender = f.sender;
+          least = f.least;
+          receiver = f.receiver;
+          opened = f.opened;
+          finishes = f.finishes;
+          halted = f.halted;
+          live = f.live;
           blocked = λ held. ⊎_elim
               (λ (me : c.receiver ≡ x). ap (is_blocked_at w) me ∙ sym is)
               (λ (ne : c.receiver ≢ x). f.blocked ne held)

@@ -1,5 +1,5 @@
 -- In every state that a run with copies reaches, each copy under way has what it needs to go on.
-use Rattle.std.proofs.Common.{◌≡◌, ℕ, ◌+◌, ◌-◌, ◌<◌, ◌≤◌, Bool, true, false, not, nat_eq, List, [], ◌∷◌, ◌++◌, length, set, refl, sym, ap, ◌∙◌, subst, arith, Option, Some, None, position}
+use Rattle.std.proofs.Common.{◌≡◌, ℕ, ◌+◌, ◌<◌, ◌≤◌, Bool, true, false, not, List, [], ◌∷◌, length, refl, sym, ap, ◌∙◌, subst, arith, Option, Some, None}
 use Rattle.std.specs.Prelude.{◌&&◌, Ok, slice_set}
 use Rattle.std.proofs.lemmas.Bool.{false≢true}
 use Rattle.std.proofs.lemmas.List.{length-set}
@@ -11,19 +11,19 @@ use Rattle.queue_core.specs.Queue.{greatest}
 use Rattle.queue_core.specs.declared.message.Message.TheVariants as message
 use Rattle.queue_core.specs.declared.op.Op.TheVariants as op
 use Rattle.queue_mirror.specs.Master.{lead_refusal, or_refused}
-use Rattle.queue_sync.specs.Copy.{Load, OneItem, Done, loads_of}
+use Rattle.queue_sync.specs.Copy.{Load, OneItem, Done}
 use Rattle.group_view.specs.Change.{AreOpeningNames}
-use Rattle.group_view.specs.View.{Group, as_id, ids, entry_in}
+use Rattle.group_view.specs.View.{Group, as_id, ids}
 use Rattle.group_view.specs.Ring.{is_in}
 use Rattle.group_view.proofs.Rings.{nat_eq-is}
 use Rattle.ring_rules.specs.declared.phase.Phase.TheVariants.{Up}
 use Rattle.ring_rules.specs.declared.event.Event.{Event}
 use Rattle.ring_rules.specs.Refusal.{or_else}
 use Rattle.ring_rules.specs.View.{is_live}
-use Rattle.ring_rules.specs.Machine.{World, member_at, view_in, newest, runs, runs_phase}
+use Rattle.ring_rules.specs.Machine.{World, member_at, view_in, runs_phase}
 use Rattle.ring_rules.specs.Step.{size, publish_at, copied_at, opening}
 use Rattle.ring_rules.specs.Kind.{Kind, Says, Own, OfQueue, Marks, kind_of}
-use Rattle.ring_rules.specs.Event.{id_of, of_member, on_link, up_refusal, op_as, op_done, done_as}
+use Rattle.ring_rules.specs.Event.{id_of, of_member, on_link, op_as, op_done, done_as}
 use Rattle.ring_rules.specs.Act as ring
 use Rattle.ring_rules.specs.Laws.{GoesOn}
 use Rattle.ring_rules.proofs.rings.Lists.{at_set}
@@ -32,15 +32,15 @@ use Rattle.ring_rules.proofs.events.Enabled.{up_none}
 use Rattle.ring_rules.proofs.runs.AllRuns.{every_run_goes_on}
 use Rattle.ring_rules.proofs.queue.Facts.{Facts}
 use Rattle.ring_rules.proofs.work.OwnEnds.{OwnEnds, reached_owns}
-use Rattle.ring_copies.specs.Copies.{CopyLink, CopyWorld, no_copy_link, copy_link_at, copy_in, copy_out, is_put_by, is_taken_by, is_blocked_at, new_copy, copy_put, copy_gained, item_taken, done_taken, dropped, copied_mirror, let_go}
-use Rattle.ring_copies.specs.Events.{CopyEvent, OfRing, OnCopy, RefusesCopy, CopyStep, Opens, Puts, Takes, Gains, by_of, copy_put_refusal, copy_gain_refusal, copy_take_refusal, target_refusal, step_refusal, refused_in, refusal, effect, ring_done, step_done, done_in, let_go_by, where_found, with_copy, open_copy, take_load, take_copy, has_marked, IsRun, last, without_copies}
+use Rattle.ring_copies.specs.Copies.{CopyLink, CopyWorld, no_copy_link, copy_link_at, copy_in, copy_out, is_put_by, is_taken_by, is_blocked_at, new_copy, copy_put, copy_gained, item_taken, done_taken, dropped, copied_mirror}
+use Rattle.ring_copies.specs.Events.{CopyEvent, OfRing, OnCopy, RefusesCopy, CopyStep, Opens, Puts, Takes, Gains, by_of, copy_put_refusal, copy_gain_refusal, copy_take_refusal, target_refusal, step_refusal, refused_in, refusal, effect, step_done, done_in, let_go_by, where_found, with_copy, open_copy, take_load, take_copy, IsRun, last, without_copies}
 use Rattle.ring_copies.proofs.Seen.{Sees, sees}
 use Rattle.ring_copies.proofs.EachCopy.{OfAll, push_kept}
-use Rattle.ring_copies.proofs.Reached.{IsCome, come_facts}
+use Rattle.ring_copies.proofs.Reached.{come_facts}
 use Rattle.ring_copies.proofs.Stays.{Stays, kind_stays, copied_stays}
 use Rattle.ring_copies.proofs.Others.{Leaves, kind_leaves, copied_leaves}
-use Rattle.ring_copies.proofs.Fits.{items_done, Fits, MayFit, over_fits, put_fits, gain_fits, item_fits, MayAlmost, almost, let_go_fits, after_fits}
-use Rattle.ring_copies.proofs.Kept.{IsCopying, copying_reached, event_known, opening_copying}
+use Rattle.ring_copies.proofs.Fits.{items_done, MayFit, over_fits, put_fits, gain_fits, item_fits, MayAlmost, almost, let_go_fits, after_fits}
+use Rattle.ring_copies.proofs.Kept.{IsCopying, event_known, opening_copying}
 
 -- one copy is another
 set_all : (Q : CopyLink → Type 0) (cs : List CopyLink) (o : ℕ) (c : CopyLink) → o < length cs → Q c → OfAll Q cs → OfAll Q (slice_set cs o c)

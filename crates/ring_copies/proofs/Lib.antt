@@ -14,6 +14,7 @@ pub mod Others
 pub mod Fits
 pub mod Fitting
 pub mod Rest
+pub mod Quiet
 pub mod Falls
 pub mod Runs
 pub mod Examples

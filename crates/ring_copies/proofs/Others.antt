@@ -1,5 +1,5 @@
 -- What an act of x leaves of the others, of those that run, and of the views.
-use Rattle.std.proofs.Common.{◌≡◌, ◌≢◌, ℕ, ◌+◌, ◌<◌, ◌≤◌, Bool, true, false, List, [], ◌∷◌, ◌++◌, length, get_or, refl, sym, ap, ◌∙◌, subst, arith, Option, Some, None, Result, Ok, Err}
+use Rattle.std.proofs.Common.{◌≡◌, ◌≢◌, ℕ, ◌+◌, ◌<◌, ◌≤◌, Bool, true, false, [], ◌∷◌, ◌++◌, length, get_or, refl, sym, ap, ◌∙◌, arith, Option, Some, None, Result, Ok, Err}
 use Rattle.std.proofs.lemmas.List.{length-set, length_push, get_or_append_left, get_or-set_other}
 use Rattle.ring_names.specs.declared.reason.Reason.{Reason}
 use Rattle.queue_core.specs.declared.op.Op.{Op}
@@ -16,7 +16,7 @@ use Rattle.ring_rules.specs.declared.kind.LinkStep.TheVariants as step
 use Rattle.ring_rules.specs.declared.kind.ViewChange.TheVariants as change
 use Rattle.ring_rules.specs.View.{right_of}
 use Rattle.ring_rules.specs.Machine.{Member, Link, World, no_member, no_link, member_at, link_at, view_in, newest, runs, runs_phase, oldest}
-use Rattle.ring_rules.specs.Step.{size, publish_at, published, put_on, take_from, taker, begin_from, begun, leave_link, finished, gain_on, current_is, with_current, stop_at, stopped, end_out, ended, popped, with_member, with_link, with_view, look_at, moved_to, open_to, opened_link, come_to, joiner, admitted_view, copied, copied_at}
+use Rattle.ring_rules.specs.Step.{size, publish_at, published, put_on, take_from, taker, begin_from, begun, leave_link, finished, current_is, with_current, stop_at, stopped, end_out, ended, popped, with_member, with_link, with_view, look_at, moved_to, open_to, opened_link, come_to, joiner, admitted_view, copied, copied_at}
 use Rattle.ring_rules.specs.Kind.{Kind, Says, Steps, Changes, Stops, Reads, Tells, Saying, Own, OfQueue}
 use Rattle.ring_rules.specs.Event.{id_of, at_found, at_door, op_as, op_done, said, taken_by, done_as, refreshed, erased_view, synced_view}
 use Rattle.ring_rules.proofs.events.Composed.{end_composed, refresh_composed}

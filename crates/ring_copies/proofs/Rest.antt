@@ -1,15 +1,14 @@
 -- Where nothing is left to do, no copy is under way at a running member.
-use Rattle.std.proofs.Common.{◌≡◌, ◌≢◌, ℕ, zero, suc, ◌+◌, ◌<◌, ◌≤◌, Bool, true, false, not, cond, nat_eq, nat_lt, List, [], ◌∷◌, ◌++◌, length, get_or, refl, sym, ap, ◌∙◌, subst, arith, ⊎_elim, inl, inr, Option, Some, None, position}
+use Rattle.std.proofs.Common.{◌≡◌, ◌≢◌, ℕ, zero, suc, ◌+◌, ◌<◌, ◌≤◌, Bool, true, false, not, cond, nat_eq, nat_lt, List, [], ◌∷◌, ◌++◌, length, get_or, refl, sym, ap, ◌∙◌, subst, arith, ⊎_elim, Some, None, position}
 use Rattle.std.specs.List.{position_or_len}
-use Rattle.std.specs.Prelude.{◌&&◌, ◌⊎◌}
-use Rattle.std.proofs.lemmas.Bool.{false≢true, cases_lt, lt-ltb}
+use Rattle.std.specs.Prelude.{◌&&◌}
+use Rattle.std.proofs.lemmas.Bool.{false≢true, cases_Bool, cases_lt, lt-ltb}
 use Rattle.std.proofs.lemmas.Bool.Decides.{nat_tests}
 use Rattle.std.proofs.lemmas.List.Elements.{All-get_or}
 use Rattle.std.proofs.lemmas.List.Quantifiers.{position-Some}
-use Rattle.ring_names.specs.declared.reason.Reason.{Reason}
 use Rattle.ring_names.specs.declared.reason.Reason.TheVariants as reason
 use Rattle.credit_flow.specs.Credit.{is_blocked}
-use Rattle.queue_sync.specs.Copy.{Load, OneItem, Done}
+use Rattle.queue_sync.specs.Copy.{Load}
 use Rattle.group_view.specs.declared.entry.Entry.{Entry}
 use Rattle.group_view.specs.declared.entry.Mark.{Mark}
 use Rattle.group_view.specs.declared.entry.Mark.TheVariants.{Live, Dead, Erased}
@@ -17,22 +16,19 @@ use Rattle.group_view.specs.Ring.{is_in}
 use Rattle.group_view.specs.View.{Group, ids, entry_in, no_entry, is_erased, is_live_mark, is_erased_mark}
 use Rattle.group_view.proofs.Rings.{nat_eq-is, nat_eq-same}
 use Rattle.group_view.proofs.Passing.{live_in}
-use Rattle.ring_rules.specs.declared.phase.Phase.TheVariants.{Up}
 use Rattle.ring_rules.specs.View.{is_live}
-use Rattle.ring_rules.specs.Refusal.{or_else, is_empty}
-use Rattle.ring_rules.specs.Machine.{Member, World, member_at, link_at, row_at, view_in, newest, runs, runs_phase}
-use Rattle.ring_rules.specs.Step.{size, log_of}
-use Rattle.ring_rules.specs.Event.{id_of, of_member, on_link, up_refusal, version_refusal}
+use Rattle.ring_rules.specs.Refusal.{is_empty}
+use Rattle.ring_rules.specs.Machine.{World, member_at, row_at, view_in, newest, runs}
+use Rattle.ring_rules.specs.Step.{size}
+use Rattle.ring_rules.specs.Event.{of_member, on_link}
 use Rattle.ring_rules.specs.Quiet.{IsSettled, IsAtRest}
-use Rattle.ring_rules.specs.QueuePart.{got_of, part_of}
 use Rattle.ring_rules.proofs.rests.Asked.{is_refused, no_version, none_left}
 use Rattle.ring_rules.proofs.rests.Forgotten.{retired_is_forgotten}
-use Rattle.ring_rules.proofs.walks.Put.{number_up}
 use Rattle.ring_rules.proofs.walks.Ended.{runs_lt}
 use Rattle.ring_rules.proofs.queue.Facts.{Facts}
 use Rattle.ring_rules.proofs.work.Fit.{IsFit}
 use Rattle.ring_copies.specs.Copies.{CopyLink, CopyWorld, no_copy_link, copy_link_at, copy_in, copy_out, is_put_by, is_taken_by, is_blocked_at}
-use Rattle.ring_copies.specs.Events.{CopyEvent, CopyStep, OnCopy, Puts, Takes, Gains, copy_put_refusal, copy_gain_refusal, copy_take_refusal, is_done_next, step_refusal, refused_in, refusal}
+use Rattle.ring_copies.specs.Events.{CopyStep, OnCopy, Puts, Takes, Gains, copy_put_refusal, copy_gain_refusal, copy_take_refusal, is_done_next, step_refusal, refused_in, refusal}
 use Rattle.ring_copies.specs.Laws.{CopiesKeepCredit, CopiesRest}
 use Rattle.ring_copies.specs.Work.{NothingLeftWithCopies}
 use Rattle.ring_copies.proofs.EachCopy.{OfAll}
@@ -79,6 +75,13 @@ first_upto t cs i il ti =
     let le : n ≤ i = first_within t cs i il ti in
     (n, (ap (λ b. cond b (Some n) None) (lt-ltb n (length cs) (omega (arith, le, il))), le))
 
+-- who is live in the newest view of a ring at rest runs
+pub live_of : (w : World) → Facts w → IsAtRest w → (n : ℕ) → is_live (view_in w (newest w)) n ≡ true → runs w n ≡ true
+live_of w f rest n e =
+    let es : List Entry = (view_in w (newest w)).entries in
+    let k = entry_of (IsSettled w) es n (λ j jl. All-get_or (IsSettled w) es j no_entry jl rest.entries) (live_in es n e) in
+    ap (runs w) (sym k.1) ∙ k.0.runs (live_mark (entry_in es n).mark e)
+
 module _ (initial : ℕ) (W : CopyWorld) (f : Facts W.ring) (fit : IsFit W.ring) (rest : IsAtRest W.ring) (credit : CopiesKeepCredit initial W) (stands : OfAll (Stands W.ring) W.copies) (fits : OfAll (MayFit W.ring) W.copies)
     (free : (y : ℕ) → runs W.ring y ≡ true → is_blocked_at W.ring y ≡ false) (none : NothingLeftWithCopies W) where
   abbrev w : World
@@ -87,13 +90,10 @@ module _ (initial : ℕ) (W : CopyWorld) (f : Facts W.ring) (fit : IsFit W.ring)
   abbrev v : Group
   v = view_in w (newest w)
 
-  -- who is live in the newest view runs
   live_runs : (n : ℕ) → is_live v n ≡ true → runs w n ≡ true
-  live_runs n e =
-      let k = entry_of (IsSettled w) v.entries n (λ j jl. All-get_or (IsSettled w) v.entries j no_entry jl rest.entries) (live_in v.entries n e) in
-      ap (runs w) (sym k.1) ∙ k.0.runs (live_mark (entry_in v.entries n).mark e)
+  live_runs n e = live_of w f rest n e
 
-  -- and who isn't erased
+  -- who isn't erased in the newest view runs
   unerased_runs : (n : ℕ) → 1 ≤ n → n < size w → (is_in n (ids v.entries) && is_erased v.entries n) ≡ false → runs w n ≡ true
   unerased_runs n some lt e =
       let there : is_in n (ids v.entries) ≡ true = f.good.inv.origins n some lt in
@@ -105,7 +105,7 @@ module _ (initial : ℕ) (W : CopyWorld) (f : Facts W.ring) (fit : IsFit W.ring)
   no_step y some ry s stuck r = stuck
       (ap (λ o. of_member o (refused_in W (OnCopy (member_at w y).name s))) (fit.named y some (runs_lt w y ry)) ∙ (rw ((rest.members y ry).up, r) refl))
 
-  test : CopyLink → Bool
+  abbrev test : CopyLink → Bool
   test c = not c.over && runs w c.receiver
 
   both : (a b : Bool) → (a && b) ≡ true → (a ≡ true) × (b ≡ true)
@@ -179,3 +179,83 @@ module _ (initial : ℕ) (W : CopyWorld) (f : Facts W.ring) (fit : IsFit W.ring)
         by_test : (b : Bool) → (is_empty c.loads && not c.ended) ≡ b → b ≡ true
         by_test true e = refl
         by_test false e = absurd (refused (rw (no_version c.opened (member_at w c.receiver).version (omega (arith, fc.opened, y_new)), e, early, never (is_done_next c.loads)) refl))
+
+    -- so all that is to be put is still with its master
+    nothing_there : c.loads ≡ []
+    nothing_there = none_left c.loads (both (is_empty c.loads) (not c.ended) stuck).0
+
+    not_ended : c.ended ≡ false
+    not_ended = not_true c.ended (both (is_empty c.loads) (not c.ended) stuck).1
+
+    some_left : c.to_put ≢ []
+    some_left e = subst HasDone (ap (λ ls. ls ++ c.to_put) nothing_there ∙ e) fc.finishes
+
+    some_puts : (ls : List Load) → ls ≢ [] → is_empty ls ≡ false
+    some_puts [] n = absurd (n refl)
+    some_puts (l ∷ ls) n = refl
+
+    puts : is_put_by c.sender c ≡ true
+    puts = ap (λ b. b && (not c.over && not (is_empty c.to_put))) (nat_eq-same c.sender) ∙ ap (λ b. not b && not (is_empty c.to_put)) open_yet ∙ ap not (some_puts c.to_put some_left)
+
+    -- and it is the one on which that puts
+    out_is : copy_out W.copies c.sender ≡ Some i
+    out_is =
+        let q = first_upto (is_put_by c.sender) W.copies i il puts in
+        q.1.0 ∙ ap Some (upto q.0 q.1.0 q.1.1)
+      where
+        filled : (b : Bool) (ls : List Load) → (not b && not (is_empty ls)) ≡ true → (b ≡ false) × (ls ≢ [])
+        filled false [] e = absurd (false≢true e)
+        filled false (l ∷ ls) e = (refl, λ k. cc)
+        filled true ls e = absurd (false≢true e)
+
+        upto : (j : ℕ) → position (is_put_by c.sender) W.copies ≡ Some j → j ≤ i → j ≡ i
+        upto j e le = ⊎_elim
+            (λ (lt : j < i).
+            let d : CopyLink = copy_link_at W.copies j in
+            let p = position-Some (is_put_by c.sender) W.copies j no_copy_link e in
+            let t = both (nat_eq d.sender c.sender) (not d.over && not (is_empty d.to_put)) p.1 in
+            let k = filled d.over d.to_put t.1 in
+            let from : d.sender ≡ c.sender = nat_eq-is d.sender c.sender t.0 in
+            let fd : Fits w d = fits j p.0 k.0 in
+            let lives : is_live (view_in w (member_at w d.sender).version) d.receiver ≡ true = fd.live (ap (runs w) from ∙ rm) k.1 in
+            let newest_there : (member_at w d.sender).version ≡ newest w = (rest.members d.sender (ap (runs w) from ∙ rm)).newest in
+            absurd (false≢true (sym (first j lt k.0) ∙ live_runs d.receiver (ap (λ n. is_live (view_in w n) d.receiver) (sym newest_there) ∙ lives))))
+            (λ (ge : i ≤ j). omega (arith, le, ge))
+            (cases_lt j i)
+
+    -- which has no credit, and none comes: so its mirror holds grants back, but isn't blocked
+    none_taken : ⊥
+    none_taken =
+        let blocked : is_blocked c.flow.sender ≡ true = is_refused (is_blocked c.flow.sender) reason.NoCredit (λ r. no_step c.sender fc.some rm Puts (none (OnCopy (member_at w c.sender).name Puts) refl)
+        (ap (λ o. on_link o reason.NoSyncLink (λ k. copy_put_refusal (copy_link_at W.copies k))) out_is ∙ r)) in
+        let grants : c.flow.grants ≡ [] = none_left c.flow.grants (is_refused (is_empty c.flow.grants) reason.NoGrant (λ r. no_step c.sender fc.some rm Gains (none (OnCopy (member_at w c.sender).name Gains) refl)
+        (ap (λ o. on_link o reason.NoSyncLink (λ k. copy_gain_refusal (copy_link_at W.copies k))) out_is ∙ r))) in
+        let waits = (credit i il).waits blocked (ap length nothing_there) grants in
+        false≢true (sym (free c.receiver ry) ∙ fc.blocked waits.1)
+
+  -- so no copy is under way at a running member
+  pub copies_rest : CopiesRest W
+  copies_rest = record { put = put; taken = taken_from }
+    where
+      taken_from : (i : ℕ) → i < length W.copies → (copy_link_at W.copies i).over ≡ false → runs w (copy_link_at W.copies i).receiver ≡ false
+      taken_from i il o = ⊎_elim
+          (λ (r : runs w (copy_link_at W.copies i).receiver ≡ true). absurd (
+          let q = first_upto test W.copies i il (ap (λ b. not b && runs w (copy_link_at W.copies i).receiver) o ∙ r) in
+          let p = position-Some test W.copies q.0 no_copy_link q.1.0 in
+          let t = both (not (copy_link_at W.copies q.0).over) (runs w (copy_link_at W.copies q.0).receiver) p.1 in
+          none_taken q.0 p.0 (not_true (copy_link_at W.copies q.0).over t.0) t.1
+          (λ j lt oj. sym (ap (λ b. not b && runs w (copy_link_at W.copies j).receiver) oj) ∙ p.2 j lt)))
+          (λ (n : runs w (copy_link_at W.copies i).receiver ≡ false). n)
+          (cases_Bool (runs w (copy_link_at W.copies i).receiver))
+
+      put : (i : ℕ) → i < length W.copies → (copy_link_at W.copies i).over ≡ false → runs w (copy_link_at W.copies i).sender ≡ true → (copy_link_at W.copies i).to_put ≡ []
+      put i il o rm = by_loads (copy_link_at W.copies i).to_put refl
+        where
+          by_loads : (ls : List Load) → (copy_link_at W.copies i).to_put ≡ ls → ls ≡ []
+          by_loads [] e = refl
+          by_loads (l ∷ ls) e =
+              let d : CopyLink = copy_link_at W.copies i in
+              let fd : Fits w d = fits i il o in
+              let newest_there : (member_at w d.sender).version ≡ newest w = (rest.members d.sender rm).newest in
+              let lives = fd.live rm (λ k. let bad : l ∷ ls ≡ [] = sym e ∙ k in cc) in
+              absurd (false≢true (sym (taken_from i il o) ∙ live_runs d.receiver (ap (λ n. is_live (view_in w n) d.receiver) (sym newest_there) ∙ lives)))

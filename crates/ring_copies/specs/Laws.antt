@@ -3,6 +3,7 @@ use Rattle.std.specs.Prelude.{◌≡◌, ℕ, ◌<◌, true, false, [], length}
 use Rattle.ring_rules.specs.Machine.{runs}
 use Rattle.credit_flow.specs.Link.{Link as CreditLink, KeepsCredit as KeepsLoads}
 use Rattle.ring_rules.specs.Laws.{IsLawful}
+use Rattle.ring_rules.specs.Quiet.{IsQuiet}
 use Rattle.ring_copies.specs.Copies.{CopyLink, CopyWorld, copy_link_at}
 
 -- a copy's link as credit_flow has it; an end is no load
@@ -24,3 +25,8 @@ pub record IsLawfulWithCopies (initial : ℕ) (W : CopyWorld) : Type 0 where
 pub record CopiesRest (W : CopyWorld) : Type 0 where
   pub put : (i : ℕ) → i < length W.copies → (copy_link_at W.copies i).over ≡ false → runs W.ring (copy_link_at W.copies i).sender ≡ true → (copy_link_at W.copies i).to_put ≡ []
   pub taken : (i : ℕ) → i < length W.copies → (copy_link_at W.copies i).over ≡ false → runs W.ring (copy_link_at W.copies i).receiver ≡ false
+
+-- a ring with copies is quiet where the ring is, and its copies rest
+pub record IsQuietWithCopies (W : CopyWorld) : Type 0 where
+  pub ring : IsQuiet W.ring
+  pub copies : CopiesRest W

@@ -7,8 +7,8 @@ ghost use Rattle.ring_rules.specs.Step.{opening};
 ghost use Rattle.ring_rules.specs.Laws.{GoesOn};
 ghost use Rattle.ring_rules.specs.QueueLaws.{QueueIsRight, LaterMastersStart};
 ghost use Rattle.ring_copies.specs.Events.{CopyEvent, IsRun, last, without_copies};
-ghost use Rattle.ring_copies.specs.Laws.{IsLawfulWithCopies};
-ghost use Rattle.ring_copies.specs.Work.{AreRepairsWithCopies, total_with_copies};
+ghost use Rattle.ring_copies.specs.Laws.{IsLawfulWithCopies, IsQuietWithCopies};
+ghost use Rattle.ring_copies.specs.Work.{AreRepairsWithCopies, NothingLeftWithCopies, total_with_copies};
 
 /// However masters copy their queue to mirrors while members join, stop, are marked dead and erased: the ring is lawful
 /// as it is without copies, and each copy keeps its credit, whether it is over or not.
@@ -50,4 +50,14 @@ pub fn repairs_end_with_copies()
         → AreOpeningNames names → IsRun (without_copies (opening credit names)) events
         → AreRepairsWithCopies (last (without_copies (opening credit names)) events) steps
         → length steps ≤ total_with_copies (last (without_copies (opening credit names)) events) }
+{}
+
+/// And where none of them is enabled, the ring is quiet, and no copy is under way at a running member: no running master
+/// has something to put, and no running mirror something to take.
+pub fn where_nothing_is_left_all_is_quiet_with_copies()
+    ensures { (credit : CreditSpec) (names : List (List ℕ)) (events : List CopyEvent)
+        → AreOpeningNames names → length events < greatest
+        → IsRun (without_copies (opening credit names)) events
+        → NothingLeftWithCopies (last (without_copies (opening credit names)) events)
+        → IsQuietWithCopies (last (without_copies (opening credit names)) events) }
 {}
