@@ -1,17 +1,17 @@
 -- An item that is kept aside: it joins as a message, is handed out, and comes back.
-use Rattle.std.proofs.Common.{◌≡◌, ℕ, ◌+◌, Bool, true, false, cond, List, [], ◌∷◌, ◌++◌, Option, Some, None, is_some, refl, sym, ap, ap₂, subst, ◌∙◌, arith, nat_eq}
-use Rattle.std.specs.Prelude.{◌&&◌, not, nat_lt, nat_le, find}
-use Rattle.std.specs.List.{list_any, list_all, filter}
-use Rattle.std.proofs.lemmas.Bool.{and_parts, eq-eqb, ne_eqb, or_from, ltb-true, leb-false}
+use Rattle.std.proofs.Common.{◌≡◌, ℕ, ◌+◌, Bool, true, false, cond, List, [], ◌∷◌, ◌++◌, Option, Some, None, is_some, refl, sym, ap, ap₂, ◌∙◌, arith}
+use Rattle.std.specs.Prelude.{◌&&◌, not, nat_lt, nat_le}
+use Rattle.std.specs.List.{list_any}
+use Rattle.std.proofs.lemmas.Bool.{and_parts, eq-eqb, ne_eqb, or_from, ltb-true}
 use Rattle.std.proofs.lemmas.Bool.Decides.{nat_tests}
-use Rattle.std.proofs.lemmas.List.{append-nil, map-append}
-use Rattle.std.proofs.lemmas.List.Elements.{filter-append}
+use Rattle.std.proofs.lemmas.List.{append-nil}
 use Rattle.ring_names.specs.declared.numbers.Position.{Position}
+use Rattle.queue_core.proofs.Split.{kept-append}
 use Rattle.queue_core.specs.declared.op.Op.{Op}
 use Rattle.queue_core.specs.declared.op.Op.TheVariants.{Publish, Deliver, Requeue}
 use Rattle.queue_core.specs.declared.held.CopyState.{CopyState}
 use Rattle.queue_core.specs.declared.held.CopyState.TheVariants.{Ready, Again, Unacked}
-use Rattle.queue_core.specs.Queue.{Item, QueueState, is_at, is_ready_at, is_unacked_at, is_above, takes, greatest, new_item, stays, state_after, changed, kept, apply}
+use Rattle.queue_core.specs.Queue.{Item, QueueState, is_at, is_ready_at, is_unacked_at, is_above, takes, greatest, stays, state_after, kept, apply}
 use Rattle.queue_core.specs.Shown.{first_from}
 use Rattle.queue_core.proofs.Items.{kept_same}
 use Rattle.queue_core.proofs.Changes.{joined}
@@ -51,12 +51,6 @@ pub none_stands : (a : ℕ) (xs : List Item) → ◌≡◌ {A = Option Item} Non
 none_stands a xs none = sym (ap (λ b. b && nat_lt a greatest) (not_false (is_above a xs) (ap is_some none ∙ found_above a xs)))
 
 -- ---- what is done to the last item
-
-kept-append : (op : Op) (xs ys : List Item) → kept op (xs ++ ys) ≡ kept op xs ++ kept op ys
-kept-append op xs ys = ap (λ zs. map_changed zs) (filter-append (stays op) xs ys) ∙ map-append (changed op) (filter (stays op) xs) (filter (stays op) ys)
-  where
-    map_changed : List Item → List Item
-    map_changed zs = Rattle.std.specs.Prelude.map (changed op) zs
 
 none_at : (a : ℕ) (xs : List Item) → is_above a xs ≡ true → list_any (is_at a) xs ≡ false
 none_at a [] h = refl

@@ -1,5 +1,5 @@
 -- A copy of a queue: what is put on it, and what it makes of a mirror.
-use Rattle.std.specs.Prelude.{ℕ, ◌+◌, cond, List, [], ◌∷◌, ◌++◌, map}
+use Rattle.std.specs.Prelude.{◌+◌, cond, List, [], ◌∷◌, ◌++◌, map}
 use Rattle.queue_core.specs.declared.op.Op.{Op}
 use Rattle.queue_core.specs.Queue.{Item, QueueState, takes, apply, raised}
 use Rattle.queue_mirror.specs.Mirror.{MirrorState, copy_of}

@@ -1,5 +1,3 @@
-use Rattle.std.proofs.Common.{ap, ◌∙◌, sym}
-use Rattle.std.specs.Prelude.{option_map}
 use Rattle.queue_core.specs.Shown.{item_of}
 use Rattle.queue_sync.proofs.Aside.{some_stands, none_stands}
 use Rattle.queue_sync.proofs.receiver.is_behind_all.Goals as goal

@@ -1,4 +1,4 @@
-use Rattle.std.proofs.Common.{ap, sym, subst, ◌∙◌, ◌≡◌, true}
+use Rattle.std.proofs.Common.{ap, sym, ◌∙◌, ◌≡◌, true}
 use Rattle.queue_core.specs.Queue.{takes}
 use Rattle.queue_sync.specs.Copy.{item_of, kept_aside}
 use Rattle.queue_sync.proofs.Aside.{ready_kept, unacked_kept, again_kept}

@@ -1,12 +1,11 @@
-use Rattle.std.proofs.Common.{◌≡◌, ◌<◌, ◌≤◌, ◌+◌, [], List, length, get_or, Option, Some, None, sym, ap, ◌∙◌, arith, map, take}
-use Rattle.std.specs.Prelude.{option_map, slice_get}
-use Rattle.std.proofs.lemmas.List.{take_all}
+use Rattle.std.proofs.Common.{◌≡◌, ◌<◌, [], length, get_or, Option, Some, None, sym, ap, ◌∙◌, arith, map}
+use Rattle.std.specs.Prelude.{option_map}
 use Rattle.std.proofs.lemmas.Option.{same_Some, slice_get-get_or}
 use Rattle.queue_core.specs.declared.held.CopyState.TheVariants.{Ready}
 use Rattle.queue_core.specs.Queue.{Item}
-use Rattle.queue_core.specs.Shown.{first_from, item_of as shown_item}
+use Rattle.queue_core.specs.Shown.{item_of as shown_item}
 use Rattle.queue_sync.specs.Copy.{item_of}
-use Rattle.queue_sync.proofs.Sent.{first_part, parts_next, parts_none, all_below, copied_next}
+use Rattle.queue_sync.proofs.Sent.{first_part, parts_next, all_below, copied_next}
 use Rattle.queue_sync.proofs.sender.items_of.Goals as goal
 
 pub unreachable-requires : goal.unreachable-requires

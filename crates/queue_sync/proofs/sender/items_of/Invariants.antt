@@ -1,4 +1,4 @@
-use Rattle.std.proofs.Common.{◌≡◌, ◌≤◌, length, map, take}
+use Rattle.std.proofs.Common.{◌≡◌, map, take}
 use Rattle.queue_sync.specs.Copy.{item_of}
 use Rattle.queue_sync.proofs.Sent.{Parts}
 use Rattle.queue_sync.proofs.sender.items_of.Given as goal
