@@ -9,7 +9,7 @@ use Rattle.group_view.proofs.Rings.{nat_eq-same}
 use Rattle.queue_core.specs.Queue.{Item}
 use Rattle.queue_sync.specs.Copy.{Load, OneItem, Done, loads_of}
 use Rattle.ring_rules.specs.Refusal.{is_empty}
-use Rattle.ring_rules.specs.Rows.{counted}
+use Rattle.ring_rules.specs.Rows.{Flow, counted}
 use Rattle.ring_rules.specs.View.{is_live}
 use Rattle.ring_rules.specs.Machine.{World, member_at, view_in, newest, runs}
 use Rattle.ring_rules.specs.Step.{size}
@@ -30,18 +30,21 @@ pub items_done : (xs : List Item) → HasDone (loads_of xs)
 items_done [] = tt
 items_done (i ∷ xs) = items_done xs
 
-pub record Fits (w : World) (c : CopyLink) : Type 0 where
+-- its ends are members, and it was opened by the newest view; Done is still to come; a master that has stopped has put an end,
+-- and one that goes on sees its mirror live
+pub record GoesOn (w : World) (c : CopyLink) : Type 0 where
   pub some : 1 ≤ c.sender
   pub sender : c.sender < size w
   pub least : 1 ≤ c.receiver
   pub receiver : c.receiver < size w
   pub opened : c.opened ≤ newest w
   pub finishes : HasDone (c.loads ++ c.to_put)
-  -- a master that has stopped has put an end
   pub halted : runs w c.sender ≡ false → c.to_put ≢ [] → c.ended ≡ true
-  -- and one that goes on sees its mirror live
   pub live : runs w c.sender ≡ true → c.to_put ≢ [] → is_live (view_in w (member_at w c.sender).version) c.receiver ≡ true
-  -- and grants are held back only while the mirror is blocked
+
+-- and grants are held back only while the mirror is blocked
+pub record Fits (w : World) (c : CopyLink) : Type 0 where
+  pub going : GoesOn w c
   pub blocked : 0 < c.flow.receiver.held → is_blocked_at w c.receiver ≡ true
 
 abbrev pub MayFit : World → CopyLink → Type 0
@@ -50,20 +53,27 @@ MayFit w c = c.over ≡ false → Fits w c
 pub over_fits : (w : World) (c : CopyLink) → c.over ≡ true → MayFit w c
 over_fits w c e o = absurd (false≢true (sym o ∙ e))
 
+-- whatever its credit is
+with_flow : (w : World) (c : CopyLink) (fl : Flow) → GoesOn w c → GoesOn w (record c { flow = fl })
+with_flow w c fl g = record { some = g.some; sender = g.sender; least = g.least; receiver = g.receiver; opened = g.opened; finishes = g.finishes; halted = g.halted; live = g.live }
+
 -- ---- a step on it
 
 pub put_fits : (w : World) (c : CopyLink) → MayFit w c → MayFit w (copy_put c)
 put_fits w c h o =
     let f : Fits w c = h o in
+    let g : GoesOn w c = f.going in
     record {
-      some = f.some;
-      sender = f.sender;
-      least = f.least;
-      receiver = f.receiver;
-      opened = f.opened;
-      finishes = subst HasDone (sym (append_assoc c.loads (take 1 c.to_put) (drop 1 c.to_put) ∙ ap (λ ls. c.loads ++ ls) (take-append-drop 1 c.to_put))) f.finishes;
-      halted = λ r some. f.halted r (some_before c.to_put some);
-      live = λ r some. f.live r (some_before c.to_put some);
+      going = record {
+        some = g.some;
+        sender = g.sender;
+        least = g.least;
+        receiver = g.receiver;
+        opened = g.opened;
+        finishes = subst HasDone (sym (append_assoc c.loads (take 1 c.to_put) (drop 1 c.to_put) ∙ ap (λ ls. c.loads ++ ls) (take-append-drop 1 c.to_put))) g.finishes;
+        halted = λ r some. g.halted r (some_before c.to_put some);
+        live = λ r some. g.live r (some_before c.to_put some);
+      };
       blocked = f.blocked;
     }
   where
@@ -71,21 +81,24 @@ put_fits w c h o =
     some_before ls n e = n (ap (drop 1) e)
 
 pub gain_fits : (w : World) (c : CopyLink) → MayFit w c → MayFit w (copy_gained c)
-gain_fits w c h o = let f : Fits w c = h o in record { some = f.some; sender = f.sender; least = f.least; receiver = f.receiver; opened = f.opened; finishes = f.finishes; halted = f.halted; live = f.live; blocked = f.blocked }
+gain_fits w c h o = let f : Fits w c = h o in record { going = with_flow w c (copy_gained c).flow f.going; blocked = f.blocked }
 
 -- an item that is taken: where the receiver isn't blocked, nothing is held back
 pub item_fits : (w : World) (b : Bool) (a : Item) (c : CopyLink) (ls : List Load) → c.loads ≡ OneItem a ∷ ls → b ≡ is_blocked_at w c.receiver → MayFit w c → MayFit w (item_taken b a c)
 item_fits w b a c ls e is h o =
     let f : Fits w c = h o in
+    let g : GoesOn w c = f.going in
     record {
-      some = f.some;
-      sender = f.sender;
-      least = f.least;
-      receiver = f.receiver;
-      opened = f.opened;
-      finishes = subst (λ ks. HasDone (drop 1 ks ++ c.to_put)) (sym e) (subst (λ ks. HasDone (ks ++ c.to_put)) e f.finishes);
-      halted = f.halted;
-      live = f.live;
+      going = record {
+        some = g.some;
+        sender = g.sender;
+        least = g.least;
+        receiver = g.receiver;
+        opened = g.opened;
+        finishes = subst (λ ks. HasDone (drop 1 ks ++ c.to_put)) (sym e) (subst (λ ks. HasDone (ks ++ c.to_put)) e g.finishes);
+        halted = g.halted;
+        live = g.live;
+      };
       blocked = λ held. by_blocked b is held;
     }
   where
@@ -104,26 +117,19 @@ freed_fits w x c h = by_case (nat_eq c.receiver x)
     by_case : (b : Bool) → MayFit w (cond b (record c { flow = judged false c.flow }) c)
     by_case true o =
         let f : Fits w c = h o in
-        record { some = f.some; sender = f.sender; least = f.least; receiver = f.receiver; opened = f.opened; finishes = f.finishes; halted = f.halted; live = f.live; blocked = λ held. absurd (omega (arith, held)) }
+        record { going = with_flow w c (judged false c.flow) f.going; blocked = λ held. absurd (omega (arith, held)) }
     by_case false o = h o
 
 -- but for its grants, which are let go then, a copy of x fits
 pub record AlmostFits (w : World) (x : ℕ) (c : CopyLink) : Type 0 where
-  pub some : 1 ≤ c.sender
-  pub sender : c.sender < size w
-  pub least : 1 ≤ c.receiver
-  pub receiver : c.receiver < size w
-  pub opened : c.opened ≤ newest w
-  pub finishes : HasDone (c.loads ++ c.to_put)
-  pub halted : runs w c.sender ≡ false → c.to_put ≢ [] → c.ended ≡ true
-  pub live : runs w c.sender ≡ true → c.to_put ≢ [] → is_live (view_in w (member_at w c.sender).version) c.receiver ≡ true
+  pub going : GoesOn w c
   pub blocked : c.receiver ≢ x → 0 < c.flow.receiver.held → is_blocked_at w c.receiver ≡ true
 
 abbrev pub MayAlmost : World → ℕ → CopyLink → Type 0
 MayAlmost w x c = c.over ≡ false → AlmostFits w x c
 
 pub almost : (w : World) (x : ℕ) (c : CopyLink) → MayFit w c → MayAlmost w x c
-almost w x c h o = let f : Fits w c = h o in record { some = f.some; sender = f.sender; least = f.least; receiver = f.receiver; opened = f.opened; finishes = f.finishes; halted = f.halted; live = f.live; blocked = λ _. f.blocked }
+almost w x c h o = let f : Fits w c = h o in record { going = f.going; blocked = λ _. f.blocked }
 
 pub let_go_fits : (w : World) (x : ℕ) (b : Bool) (cs : List CopyLink) → b ≡ is_blocked_at w x → OfAll (MayAlmost w x) cs → OfAll (MayFit w) (let_go b x cs)
 let_go_fits w x true cs is h = λ i il. held_fits (copy_link_at cs i) (h i il)
@@ -132,14 +138,7 @@ let_go_fits w x true cs is h = λ i il. held_fits (copy_link_at cs i) (h i il)
     held_fits c k o =
         let f : AlmostFits w x c = k o in
         record {
-          some = f.some;
-          sender = f.sender;
-          least = f.least;
-          receiver = f.receiver;
-          opened = f.opened;
-          finishes = f.finishes;
-          halted = f.halted;
-          live = f.live;
+          going = f.going;
           blocked = λ held. ⊎_elim
               (λ (me : c.receiver ≡ x). ap (is_blocked_at w) me ∙ sym is)
               (λ (ne : c.receiver ≢ x). f.blocked ne held)
@@ -150,8 +149,8 @@ let_go_fits w x false cs is h = map_to (MayAlmost w x) (MayFit w) (let_go_one x)
     one : (c : CopyLink) → MayAlmost w x c → MayFit w (let_go_one x c)
     one c k = ⊎_elim
         (λ (me : c.receiver ≡ x). subst (λ b. MayFit w (cond b (record c { flow = judged false c.flow }) c)) (sym (ap (nat_eq c.receiver) (sym me) ∙ nat_eq-same c.receiver))
-        (λ o. let f = k o in record { some = f.some; sender = f.sender; least = f.least; receiver = f.receiver; opened = f.opened; finishes = f.finishes; halted = f.halted; live = f.live; blocked = λ held. absurd (omega (arith, held)) }))
-        (λ (ne : c.receiver ≢ x). freed_fits w x c (λ o. let f = k o in record { some = f.some; sender = f.sender; least = f.least; receiver = f.receiver; opened = f.opened; finishes = f.finishes; halted = f.halted; live = f.live; blocked = f.blocked ne }))
+        (λ o. let f = k o in record { going = with_flow w c (judged false c.flow) f.going; blocked = λ held. absurd (omega (arith, held)) }))
+        (λ (ne : c.receiver ≢ x). freed_fits w x c (λ o. let f = k o in record { going = f.going; blocked = f.blocked ne }))
         (cases_eq c.receiver x)
 
 -- ---- an event of the ring, of kind k of member x
@@ -168,42 +167,47 @@ module _ (w : World) (x : ℕ) (w' : World) (k : Kind) (st : Stays w x (reads_vi
       → Fits w c → AlmostFits w' x c'
   goes c c' s r op l t fl ended stops reads f =
       record {
-        some = subst (λ n. 1 ≤ n) (sym s) f.some;
-        sender = omega (arith, s, f.sender, more);
-        least = subst (λ n. 1 ≤ n) (sym r) f.least;
-        receiver = omega (arith, r, f.receiver, more);
-        opened = omega (arith, op, f.opened, newer);
-        finishes = subst HasDone (sym (ap (λ ls. ls ++ c'.to_put) l ∙ ap (λ ls. c.loads ++ ls) t)) f.finishes;
-        halted = λ n some. halted (ap (runs w') (sym s) ∙ n) (λ e. some (t ∙ e));
-        live = λ n some. subst (λ q. is_live (view_in w' (member_at w' q).version) c'.receiver ≡ true) (sym s) (subst (λ q. is_live (view_in w' (member_at w' c.sender).version) q ≡ true) (sym r) (live (ap (runs w') (sym s) ∙ n) (λ e. some (t ∙ e))));
+        going = record {
+          some = subst (λ n. 1 ≤ n) (sym s) g.some;
+          sender = omega (arith, s, g.sender, more);
+          least = subst (λ n. 1 ≤ n) (sym r) g.least;
+          receiver = omega (arith, r, g.receiver, more);
+          opened = omega (arith, op, g.opened, newer);
+          finishes = subst HasDone (sym (ap (λ ls. ls ++ c'.to_put) l ∙ ap (λ ls. c.loads ++ ls) t)) g.finishes;
+          halted = λ n some. halted (ap (runs w') (sym s) ∙ n) (λ e. some (t ∙ e));
+          live = λ n some. subst (λ q. is_live (view_in w' (member_at w' q).version) c'.receiver ≡ true) (sym s) (subst (λ q. is_live (view_in w' (member_at w' c.sender).version) q ≡ true) (sym r) (live (ap (runs w') (sym s) ∙ n) (λ e. some (t ∙ e))));
+        };
         blocked = λ ne h.
             let other : c.receiver ≢ x = λ e. ne (r ∙ e) in
-            ap (is_blocked_at w') r ∙ le.blocked c.receiver f.receiver other ∙ f.blocked (subst (λ g. 0 < g.receiver.held) fl h);
+            ap (is_blocked_at w') r ∙ le.blocked c.receiver g.receiver other ∙ f.blocked (subst (λ fl. 0 < fl.receiver.held) fl h);
       }
     where
+      g : GoesOn w c
+      g = f.going
+
       halted : runs w' c.sender ≡ false → c.to_put ≢ [] → c'.ended ≡ true
       halted n some = ⊎_elim
           (λ (ran : runs w c.sender ≡ true). by_stop (is_stop k) refl ran)
-          (λ (none : runs w c.sender ≡ false). ended (f.halted none some))
+          (λ (none : runs w c.sender ≡ false). ended (g.halted none some))
           (cases_Bool (runs w c.sender))
         where
           by_stop : (b : Bool) → is_stop k ≡ b → runs w c.sender ≡ true → c'.ended ≡ true
-          by_stop false e ran = absurd (false≢true (sym n ∙ le.alive c.sender f.sender (λ _. e) ran))
+          by_stop false e ran = absurd (false≢true (sym n ∙ le.alive c.sender g.sender (λ _. e) ran))
           by_stop true e ran = ⊎_elim
               (λ (me : c.sender ≡ x). stops me e some)
-              (λ (ne : c.sender ≢ x). absurd (false≢true (sym n ∙ le.alive c.sender f.sender (λ me. absurd (ne me)) ran)))
+              (λ (ne : c.sender ≢ x). absurd (false≢true (sym n ∙ le.alive c.sender g.sender (λ me. absurd (ne me)) ran)))
               (cases_eq c.sender x)
 
       live : runs w' c.sender ≡ true → c.to_put ≢ [] → is_live (view_in w' (member_at w' c.sender).version) c.receiver ≡ true
       live n some =
-          let ran : runs w c.sender ≡ true = st.ran c.sender f.sender n in
+          let ran : runs w c.sender ≡ true = st.ran c.sender g.sender n in
           ⊎_elim
           (λ (me : c.sender ≡ x). by_reads (reads_view k) refl me ran)
-          (λ (ne : c.sender ≢ x). stays (st.others c.sender f.sender ne) ran)
+          (λ (ne : c.sender ≢ x). stays (st.others c.sender g.sender ne) ran)
           (cases_eq c.sender x)
         where
           stays : (member_at w' c.sender).version ≡ (member_at w c.sender).version → runs w c.sender ≡ true → is_live (view_in w' (member_at w' c.sender).version) c.receiver ≡ true
-          stays e ran = ap (λ v. is_live (view_in w' v) c.receiver) e ∙ ap (λ g. is_live g c.receiver) (le.views (member_at w c.sender).version (held c.sender)) ∙ f.live ran some
+          stays e ran = ap (λ v. is_live (view_in w' v) c.receiver) e ∙ ap (λ g. is_live g c.receiver) (le.views (member_at w c.sender).version (held c.sender)) ∙ g.live ran some
 
           by_reads : (b : Bool) → reads_view k ≡ b → c.sender ≡ x → runs w c.sender ≡ true → is_live (view_in w' (member_at w' c.sender).version) c.receiver ≡ true
           by_reads true e me ran = subst (λ q. is_live (view_in w' (member_at w' q).version) c.receiver ≡ true) (sym me) (reads me e some)

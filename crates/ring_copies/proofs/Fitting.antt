@@ -165,14 +165,16 @@ module _ (credit : CreditSpec) (names : List (List ℕ)) (are : AreOpeningNames 
               let_go_fits w' x (is_blocked_at w' x) (open_copy W x t).copies refl
               (push_kept (MayAlmost w' x) W.copies (new_copy w x t)
               (almost w' x (new_copy w x t) (λ o. record {
-                some = some;
-                sender = omega (arith, there, more);
-                least = (id_within w target t at).0;
-                receiver = omega (arith, (id_within w target t at).1, more);
-                opened = omega (arith, f.good.inv.is_ring.held x, le.longer);
-                finishes = items_done (member_at w x).mirror.queue.items;
-                halted = λ n _. absurd (false≢true (sym n ∙ le.alive x there (λ _. refl) (ap runs_phase up)));
-                live = λ _ _. ap (λ v. is_live (view_in w' v) t) (st.mine refl there) ∙ ap (λ g. is_live g t) (le.views (member_at w x).version (held x)) ∙ target_lives W x (view_in w (member_at w x).version) t r;
+                going = record {
+                  some = some;
+                  sender = omega (arith, there, more);
+                  least = (id_within w target t at).0;
+                  receiver = omega (arith, (id_within w target t at).1, more);
+                  opened = omega (arith, f.good.inv.is_ring.held x, le.longer);
+                  finishes = items_done (member_at w x).mirror.queue.items;
+                  halted = λ n _. absurd (false≢true (sym n ∙ le.alive x there (λ _. refl) (ap runs_phase up)));
+                  live = λ _ _. ap (λ v. is_live (view_in w' v) t) (st.mine refl there) ∙ ap (λ g. is_live g t) (le.views (member_at w x).version (held x)) ∙ target_lives W x (view_in w (member_at w x).version) t r;
+                };
                 blocked = λ b. absurd (omega (arith, b));
               }))
               (after_fits w x w' kind st le there more (omega (arith, le.longer)) held W.copies h))

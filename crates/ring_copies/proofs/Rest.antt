@@ -133,15 +133,15 @@ module _ (initial : ℕ) (W : CopyWorld) (f : Facts W.ring) (fit : IsFit W.ring)
 
     -- its master runs
     rm : runs w c.sender ≡ true
-    rm = unerased_runs c.sender fc.some fc.sender (subst (λ n. (is_in c.sender (ids (view_in w n).entries) && is_erased (view_in w n).entries c.sender) ≡ false) y_new (sc.copied.unseen (part_runs w c.receiver ∙ ry)))
+    rm = unerased_runs c.sender fc.going.some fc.going.sender (subst (λ n. (is_in c.sender (ids (view_in w n).entries) && is_erased (view_in w n).entries c.sender) ≡ false) y_new (sc.copied.unseen (part_runs w c.receiver ∙ ry)))
 
     -- the mark has come
     marked : c.mark ≤ (row_at (member_at w c.receiver) c.sender).got
     marked =
         let am = rest.members c.sender rm in
-        let forgot = retired_is_forgotten w c.sender f.good am.up fc.some rm in
+        let forgot = retired_is_forgotten w c.sender f.good am.up fc.going.some rm in
         let an = rest.members c.receiver ry in
-        let confirmed = f.lawful.confirmed.up c.receiver c.sender fc.some fc.sender an.up in
+        let confirmed = f.lawful.confirmed.up c.receiver c.sender fc.going.some fc.going.sender an.up in
         omega (arith, sc.copied.mark, am.come_round, forgot, confirmed)
 
     -- it is the one from which its mirror takes
@@ -166,7 +166,7 @@ module _ (initial : ℕ) (W : CopyWorld) (f : Facts W.ring) (fit : IsFit W.ring)
     stuck = by_test (is_empty c.loads && not c.ended) refl
       where
         refused : copy_take_refusal w c.receiver c ≢ None
-        refused r = no_step c.receiver fc.least ry Takes (none (OnCopy (member_at w c.receiver).name Takes) refl)
+        refused r = no_step c.receiver fc.going.least ry Takes (none (OnCopy (member_at w c.receiver).name Takes) refl)
             (ap (λ o. on_link o reason.NoSyncLink (λ k. copy_take_refusal w c.receiver (copy_link_at W.copies k))) in_is ∙ r)
 
         early : nat_lt (row_at (member_at w c.receiver) c.sender).got c.mark ≡ false
@@ -178,7 +178,7 @@ module _ (initial : ℕ) (W : CopyWorld) (f : Facts W.ring) (fit : IsFit W.ring)
 
         by_test : (b : Bool) → (is_empty c.loads && not c.ended) ≡ b → b ≡ true
         by_test true e = refl
-        by_test false e = absurd (refused (rw (no_version c.opened (member_at w c.receiver).version (omega (arith, fc.opened, y_new)), e, early, never (is_done_next c.loads)) refl))
+        by_test false e = absurd (refused (rw (no_version c.opened (member_at w c.receiver).version (omega (arith, fc.going.opened, y_new)), e, early, never (is_done_next c.loads)) refl))
 
     -- so all that is to be put is still with its master
     nothing_there : c.loads ≡ []
@@ -188,7 +188,7 @@ module _ (initial : ℕ) (W : CopyWorld) (f : Facts W.ring) (fit : IsFit W.ring)
     not_ended = not_true c.ended (both (is_empty c.loads) (not c.ended) stuck).1
 
     some_left : c.to_put ≢ []
-    some_left e = subst HasDone (ap (λ ls. ls ++ c.to_put) nothing_there ∙ e) fc.finishes
+    some_left e = subst HasDone (ap (λ ls. ls ++ c.to_put) nothing_there ∙ e) fc.going.finishes
 
     some_puts : (ls : List Load) → ls ≢ [] → is_empty ls ≡ false
     some_puts [] n = absurd (n refl)
@@ -217,7 +217,7 @@ module _ (initial : ℕ) (W : CopyWorld) (f : Facts W.ring) (fit : IsFit W.ring)
             let k = filled d.over d.to_put t.1 in
             let from : d.sender ≡ c.sender = nat_eq-is d.sender c.sender t.0 in
             let fd : Fits w d = fits j p.0 k.0 in
-            let lives : is_live (view_in w (member_at w d.sender).version) d.receiver ≡ true = fd.live (ap (runs w) from ∙ rm) k.1 in
+            let lives : is_live (view_in w (member_at w d.sender).version) d.receiver ≡ true = fd.going.live (ap (runs w) from ∙ rm) k.1 in
             let newest_there : (member_at w d.sender).version ≡ newest w = (rest.members d.sender (ap (runs w) from ∙ rm)).newest in
             absurd (false≢true (sym (first j lt k.0) ∙ live_runs d.receiver (ap (λ n. is_live (view_in w n) d.receiver) (sym newest_there) ∙ lives))))
             (λ (ge : i ≤ j). omega (arith, le, ge))
@@ -226,9 +226,9 @@ module _ (initial : ℕ) (W : CopyWorld) (f : Facts W.ring) (fit : IsFit W.ring)
     -- which has no credit, and none comes: so its mirror holds grants back, but isn't blocked
     none_taken : ⊥
     none_taken =
-        let blocked : is_blocked c.flow.sender ≡ true = is_refused (is_blocked c.flow.sender) reason.NoCredit (λ r. no_step c.sender fc.some rm Puts (none (OnCopy (member_at w c.sender).name Puts) refl)
+        let blocked : is_blocked c.flow.sender ≡ true = is_refused (is_blocked c.flow.sender) reason.NoCredit (λ r. no_step c.sender fc.going.some rm Puts (none (OnCopy (member_at w c.sender).name Puts) refl)
         (ap (λ o. on_link o reason.NoSyncLink (λ k. copy_put_refusal (copy_link_at W.copies k))) out_is ∙ r)) in
-        let grants : c.flow.grants ≡ [] = none_left c.flow.grants (is_refused (is_empty c.flow.grants) reason.NoGrant (λ r. no_step c.sender fc.some rm Gains (none (OnCopy (member_at w c.sender).name Gains) refl)
+        let grants : c.flow.grants ≡ [] = none_left c.flow.grants (is_refused (is_empty c.flow.grants) reason.NoGrant (λ r. no_step c.sender fc.going.some rm Gains (none (OnCopy (member_at w c.sender).name Gains) refl)
         (ap (λ o. on_link o reason.NoSyncLink (λ k. copy_gain_refusal (copy_link_at W.copies k))) out_is ∙ r))) in
         let waits = (credit i il).waits blocked (ap length nothing_there) grants in
         false≢true (sym (free c.receiver ry) ∙ fc.blocked waits.1)
@@ -257,5 +257,5 @@ module _ (initial : ℕ) (W : CopyWorld) (f : Facts W.ring) (fit : IsFit W.ring)
               let d : CopyLink = copy_link_at W.copies i in
               let fd : Fits w d = fits i il o in
               let newest_there : (member_at w d.sender).version ≡ newest w = (rest.members d.sender rm).newest in
-              let lives = fd.live rm (λ k. let bad : l ∷ ls ≡ [] = sym e ∙ k in cc) in
+              let lives = fd.going.live rm (λ k. let bad : l ∷ ls ≡ [] = sym e ∙ k in cc) in
               absurd (false≢true (sym (taken_from i il o) ∙ live_runs d.receiver (ap (λ n. is_live (view_in w n) d.receiver) (sym newest_there) ∙ lives)))
