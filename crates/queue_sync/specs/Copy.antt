@@ -1,5 +1,5 @@
 -- A copy of a queue: what is put on it, and what it makes of a mirror.
-use Rattle.std.specs.Prelude.{◌+◌, cond, List, [], ◌∷◌, ◌++◌, map}
+use Rattle.std.specs.Prelude.{◌+◌, Bool, true, false, cond, List, [], ◌∷◌, ◌++◌, map}
 use Rattle.queue_core.specs.declared.op.Op.{Op}
 use Rattle.queue_core.specs.Queue.{Item, QueueState, takes, apply, raised}
 use Rattle.queue_mirror.specs.Mirror.{MirrorState, copy_of}
@@ -24,6 +24,11 @@ load_of load.Done = Done
 -- these items, one after another, and then that this is all
 abbrev pub loads_of : List Item → List Load
 loads_of items = map OneItem items ++ Done ∷ []
+
+-- whether nothing is left to be put
+abbrev pub is_all_put : List Load → Bool
+is_all_put [] = true
+is_all_put (load ∷ loads) = false
 
 -- a receiver keeps an item aside, where it stands above those that it keeps
 abbrev pub kept_aside : Item → QueueState → QueueState

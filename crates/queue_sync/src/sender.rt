@@ -37,7 +37,8 @@ impl Model for SyncOut {
 
 impl SyncOut {
     ghost use Rattle.std.specs.Prelude.{◌≡◌, IfOk, option_map, drop, slice_get};
-    ghost use Rattle.credit_flow.specs.Credit.{full_credit};
+    ghost use Rattle.credit_flow.specs.Credit.{full_credit, is_blocked as blocked_is};
+    ghost use Rattle.queue_sync.specs.Copy.{is_all_put};
     ghost use Rattle.queue_sync.specs.Copy.{loads_of, load_of};
     ghost use Rattle.std.specs.Borrow.{sem};
     ghost use Rattle.queue_sync.specs.Lending.{LendsCredit};
@@ -68,6 +69,20 @@ impl SyncOut {
         ensures { result.0 ≡ (self.now).target }
     {
         self.target
+    }
+
+    /// Whether all was put.
+    pub fn is_done(&self) -> bool
+        ensures { result ≡ is_all_put (self.now).to_put }
+    {
+        self.is_done
+    }
+
+    /// Whether there is no credit for what is to be put next.
+    pub fn is_blocked(&self) -> bool
+        ensures { result ≡ blocked_is (self.now).credit }
+    {
+        self.credit.blocked()
     }
 
     /// The credit for what is put. It takes no memory.

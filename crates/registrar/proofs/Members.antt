@@ -11,7 +11,7 @@ use Rattle.ring_rules.specs.declared.kind.LinkStep.TheVariants as step
 use Rattle.registrar.specs.Stands.{IsOwn}
 use Rattle.ring_rules.specs.Machine.{Member, World, no_member, member_at, link_at, view_in, oldest}
 use Rattle.ring_rules.specs.Step.{size, with_member, moved_to, opened_link, end_out, begun, taker, published, with_current}
-use Rattle.ring_rules.specs.Event.{Saying, Own, OfQueue, Kind, Says, Steps, Changes, Stops, Reads, Tells, kind_of, is_registered_kind, is_stopped, refreshed, at_found, taken_by, effect, at_door, id_of, by_of, op_as, op_done, said, done_as, done_at}
+use Rattle.ring_rules.specs.Event.{Saying, Own, OfQueue, Kind, Says, Steps, Copying, Changes, Stops, Reads, Tells, kind_of, is_registered_kind, is_stopped, refreshed, at_found, taken_by, effect, at_door, id_of, by_of, op_as, op_done, said, done_as, done_at}
 use Rattle.ring_rules.proofs.events.Composed.{refresh_composed}
 use Rattle.std.proofs.Math.Seq.{map-set_same}
 use Rattle.std.proofs.lemmas.Bool.{false≢true}
@@ -90,6 +90,7 @@ told_done w x (Steps step.Take) h = told_found w (member_at w x).current _ (λ s
 told_done w x (Steps step.TakeEnd) h = told_found w (member_at w x).current _ (λ s. told_member w x (with_current None (member_at w x)) refl)
 told_done w x (Steps step.Gain) h = told_found w (member_at w x).out _ (λ o. refl)
 told_done w x (Steps step.Pick) h = told_found w (at_door w x) _ (λ s. told_member w x (with_current (Some s) (member_at w x)) refl)
+told_done w x (Copying s) h = refl
 told_done w x (Changes c) h = absurd (false≢true (sym h))
 told_done w x Stops h = absurd (false≢true (sym h))
 told_done w x (Reads version) h = told_refreshed w x version

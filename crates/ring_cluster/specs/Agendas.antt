@@ -1,12 +1,22 @@
 -- What is still to be done, by the name of the member that was asked. One that nobody has yet may have an agenda too.
-use Rattle.std.specs.Prelude.{◌≡◌, ℕ, zero, suc, ◌<◌, List, [], ◌∷◌, ◌++◌, length, map, position, bytes_eq, slice_set, slice_index_or, drop, Option, Some, None}
+use Rattle.std.specs.Prelude.{◌≡◌, ℕ, zero, suc, ◌<◌, Bool, true, false, List, [], ◌∷◌, ◌++◌, length, map, position, bytes_eq, slice_set, slice_index_or, drop, Option, Some, None}
 use Rattle.std.specs.List.{All, sum_by}
 use Rattle.ring_rules.specs.declared.event.Client.{Client}
+use Rattle.ring_rules.specs.declared.event.Client.TheVariants as client
 use Rattle.ring_rules.specs.Event.{asked_of}
 
 -- this is asked of the member of that name
 abbrev pub IsAskedOf : List ℕ → Client → Type 0
 IsAskedOf name t = asked_of t ≡ name
+
+-- whether a copy of the queue is asked for
+abbrev pub is_for_copy : Client → Bool
+is_for_copy (client.Sync by target) = true
+is_for_copy t = false
+
+-- none is: no command asks for one, and nobody hands one on
+abbrev pub IsForNoCopy : Client → Type 0
+IsForNoCopy t = is_for_copy t ≡ false
 
 -- An agenda: whose it is, and what clients asked of that one, what is to be done next first.
 pub record Plan : Type 0 where

@@ -16,7 +16,7 @@ use Rattle.ring_rules.specs.Machine.{World, member_at}
 use Rattle.ring_rules.specs.Step.{opening}
 use Rattle.ring_rules.specs.Event.{by_of, is_asked, is_passing, event_of, refusal, last}
 use Rattle.ring_rules.specs.Quiet.{IsQuiet}
-use Rattle.ring_cluster.specs.Agendas.{IsAskedOf, tasks_in, with_tasks, with_asked}
+use Rattle.ring_cluster.specs.Agendas.{IsAskedOf, IsForNoCopy, tasks_in, with_tasks, with_asked}
 use Rattle.ring_cluster.specs.Handed.{handing, given_to, handed}
 use Rattle.ring_cluster.specs.Seen.{Seen, state_of, IsMemberIn}
 use Rattle.ring_parties.specs.States.{state}
@@ -103,7 +103,7 @@ passes (Some r) = is_passing r
 
 -- the member of that name leaves its agenda as it is: there is nothing on it, or what refuses the first task will pass
 abbrev pub LeavesAgenda : Seen → List ℕ → Type 0
-LeavesAgenda c name = (t : Client) (ts : List Client) → agenda_of c name ≡ t ∷ ts → IsAskedOf name t × (passes (refusal (state_of c) (event_of t)) ≡ true)
+LeavesAgenda c name = (t : Client) (ts : List Client) → agenda_of c name ≡ t ∷ ts → IsAskedOf name t × IsForNoCopy t × (passes (refusal (state_of c) (event_of t)) ≡ true)
 
 -- ---- commands
 

@@ -4,7 +4,7 @@ ghost use Rattle.std.specs.Prelude.{IfSome, OnOk, OnErr, bytes_eq, nat_lt, posit
 ghost use Rattle.std.specs.List.{All};
 ghost use Rattle.ring_rules.specs.declared.event.Client.{Client};
 ghost use Rattle.ring_rules.specs.Event.{asked_of};
-ghost use Rattle.ring_cluster.specs.Agendas.{Plan, IsAskedOf, names_of, place_among, tasks_in, tasks_on_all};
+ghost use Rattle.ring_cluster.specs.Agendas.{Plan, IsAskedOf, IsForNoCopy, names_of, place_among, tasks_in, tasks_on_all};
 ghost use Rattle.ring_cluster.specs.Agendas.{with_tasks, with_task, IsFront};
 
 use ring_names::{Name, OutOfMemory};
@@ -20,6 +20,7 @@ pub struct Agenda {
     name: Name,
     tasks: VecDeque<Client>,
     ghost asked: { All (IsAskedOf name) tasks.items },
+    ghost no_copies: { All IsForNoCopy tasks.items },
 }
 
 impl Model for Agenda {
@@ -33,7 +34,7 @@ impl Model for Agenda {
 impl Agenda {
     ghost use Rattle.std.specs.Prelude.{◌≡◌, ◌+◌, ◌∷◌, ◌++◌, [], List, drop, length, nat_lt, IfSome, OnOk, OnErr};
     ghost use Rattle.ring_rules.specs.declared.event.Client.{Client};
-    ghost use Rattle.ring_cluster.specs.Agendas.{IsAskedOf, IsFront};
+    ghost use Rattle.ring_cluster.specs.Agendas.{IsAskedOf, IsForNoCopy, IsFront};
 
     /// An agenda with nothing on it.
     fn new(alloc: Global, name: Name) -> Agenda
@@ -54,7 +55,8 @@ impl Agenda {
 
     /// A task of its member joins its end.
     fn push(&mut self, task: Client) -> Result<(), OutOfMemory>
-        requires { IsAskedOf (self.old).name task }
+        requires asked { IsAskedOf (self.old).name task }
+        requires no_copy { IsForNoCopy task }
         ensures ok { OnOk result (self.new ≡ record self.old { tasks = (self.old).tasks ++ task ∷ [] }) }
         ensures err { OnErr result (self.new ≡ self.old) }
     {
@@ -69,6 +71,7 @@ impl Agenda {
         ensures next { MatchOption result ((self.now).tasks ≡ [])
             (λ task. (rest : List Client) × ((self.now).tasks ≡ task.now ∷ rest)) }
         ensures asked { IfSome result (λ task. IsAskedOf (self.now).name task.now) }
+        ensures no_copy { IfSome result (λ task. IsForNoCopy task.now) }
     {
         self.tasks.front()
     }
@@ -132,7 +135,7 @@ impl Agendas {
     ghost use Rattle.std.specs.Prelude.{map, is_some};
     ghost use Rattle.ring_rules.specs.declared.event.Client.{Client};
     ghost use Rattle.ring_rules.specs.Event.{asked_of};
-    ghost use Rattle.ring_cluster.specs.Agendas.{Plan, IsAskedOf, names_of, place_among, tasks_in, with_tasks, with_task};
+    ghost use Rattle.ring_cluster.specs.Agendas.{Plan, IsAskedOf, IsForNoCopy, names_of, place_among, tasks_in, with_tasks, with_task};
     ghost use Rattle.ring_cluster.specs.Agendas.{IsFront, AreFronts, struck_off};
 
     /// Nobody has an agenda.
@@ -150,6 +153,7 @@ impl Agendas {
         ensures next { MatchOption result (tasks_in self.now name.now ≡ [])
             (λ task. (rest : List Client) × (tasks_in self.now name.now ≡ task.now ∷ rest)) }
         ensures asked { IfSome result (λ task. IsAskedOf name.now task.now) }
+        ensures no_copy { IfSome result (λ task. IsForNoCopy task.now) }
     {
         if self.count == 0 {
             return None;
@@ -225,6 +229,7 @@ impl Agendas {
 
     /// A task joins the end of the agenda of its member, or begins one. Without memory for that nothing changes.
     pub(crate) fn give(&mut self, alloc: Global, task: Client) -> Result<(), OutOfMemory>
+        requires { IsForNoCopy task }
         ensures ok { OnOk result (self.new ≡ with_task self.old task) }
         ensures err { OnErr result (self.new ≡ self.old) }
     {
@@ -258,6 +263,7 @@ fn next_task<'a>(agendas: &'a [Agenda], name: &Name) -> Option<&'a Client>
     ensures next { MatchOption result (tasks_in agendas.now name.now ≡ [])
         (λ task. (rest : List Client) × (tasks_in agendas.now name.now ≡ task.now ∷ rest)) }
     ensures asked { IfSome result (λ task. IsAskedOf name.now task.now) }
+    ensures no_copy { IfSome result (λ task. IsForNoCopy task.now) }
 {
     match place_of(agendas, name) {
         Some(place) => agendas[place].head(),
@@ -296,6 +302,7 @@ fn has_agenda(agendas: &[Agenda], name: &Name) -> bool
 
 /// A task joins the end of the agenda of its member, or begins one. Without memory for that nothing changes.
 fn give_task(alloc: Global, agendas: &mut Vec<Agenda>, task: Client) -> Result<(), OutOfMemory>
+    requires { IsForNoCopy task }
     ensures ok { OnOk result (agendas.new.items ≡ with_task agendas.old.items task) }
     ensures err { OnErr result (agendas.new.items ≡ agendas.old.items) }
 {
@@ -307,6 +314,7 @@ fn give_task(alloc: Global, agendas: &mut Vec<Agenda>, task: Client) -> Result<(
 
 /// A task begins an agenda.
 fn begin(alloc: Global, agendas: &mut Vec<Agenda>, task: Client) -> Result<(), OutOfMemory>
+    requires { IsForNoCopy task }
     ensures ok { OnOk result (agendas.new.items
         ≡ agendas.old.items ++ record { name = asked_of task; tasks = task ∷ [] } ∷ []) }
     ensures err { OnErr result (agendas.new.items ≡ agendas.old.items) }

@@ -1,6 +1,7 @@
 //! What clients ask of members, and how that is answered.
 ghost use Rattle.std.specs.Prelude.{◌≡◌, true, false, Some, IfOk, MatchOption};
 ghost use Rattle.ring_rules.specs.Event.{is_passing as is_passing_reason};
+ghost use Rattle.ring_cluster.specs.Agendas.{IsForNoCopy};
 ghost use Rattle.ring_cluster.specs.Plays.{IsOfMember, client_of as the_client, answer_by};
 
 use ring_names::{OutOfMemory, Reason};
@@ -11,7 +12,8 @@ use ring_script::Command;
 /// What a command asks of a member: the caller gives none of the whole ring.
 pub(crate) fn client_of(command: &Command) -> Result<Client, OutOfMemory>
     requires { IsOfMember command.now }
-    ensures { IfOk result (λ task. the_client command.now ≡ Some task) }
+    ensures client { IfOk result (λ task. the_client command.now ≡ Some task) }
+    ensures no_copy { IfOk result IsForNoCopy }
 {
     match command {
         Command::Cast { by, body } => Ok(Client::Cast {

@@ -83,7 +83,7 @@ impl Cluster {
     ghost use Rattle.ring_cluster.specs.Seen.{IsStepped, opening_seen, with_event, owing, collected_at};
     ghost use Rattle.ring_rules.specs.declared.event.Client.{Client};
     ghost use Rattle.ring_cluster.specs.Plays.{PlaysSoFar, Plays, IsOfMember, commanded, passes};
-    ghost use Rattle.ring_cluster.specs.Agendas.{Plan, IsAskedOf, names_of, place_among, with_tasks, with_task, with_asked};
+    ghost use Rattle.ring_cluster.specs.Agendas.{Plan, IsAskedOf, IsForNoCopy, names_of, place_among, with_tasks, with_task, with_asked};
     ghost use Rattle.ring_cluster.specs.Plays.{performed, answer_to, agenda_of, GoesOn, HasGoneOn};
     ghost use Rattle.ring_cluster.specs.Plays.{HasBegun, HeadsAre, LeavesAgenda, AgendasAreEmpty};
     ghost use Rattle.ring_cluster.specs.Handed.{handing as is_handed, heir as the_heir};
@@ -328,6 +328,7 @@ impl Cluster {
 
     /// A task joins the end of the agenda of its member.
     fn give(&mut self, task: Client) -> Result<(), OutOfMemory>
+        requires { IsForNoCopy task }
         ensures ok { OnOk result (self.new ≡ record self.old { agendas = with_task (self.old).agendas task }) }
         ensures err { OnErr result (self.new ≡ self.old) }
     {
@@ -346,6 +347,7 @@ impl Cluster {
     /// The join that an event hands on, as it is asked of the heir.
     fn handing(&self, event: &Event) -> Option<Client>
         ensures handed { result ≡ is_handed (state_of self.now) event.now }
+        ensures no_copy { IfSome result IsForNoCopy }
     {
         match event {
             Event::Refuse {

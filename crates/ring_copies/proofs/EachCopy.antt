@@ -13,13 +13,15 @@ use Rattle.group_view.specs.View.{Group}
 use Rattle.ring_rules.specs.Refusal.{is_empty}
 use Rattle.ring_rules.specs.View.{is_live}
 use Rattle.ring_rules.specs.Machine.{World, member_at, view_in}
-use Rattle.ring_rules.specs.Kind.{Kind, Says, Steps, Changes, Stops, Reads, Tells, kind_of}
+use Rattle.ring_rules.specs.Kind.{Kind, Says, Steps, Copying, Changes, Stops, Reads, Tells, kind_of}
 use Rattle.ring_rules.specs.Event.{id_of, of_member, on_link, done_as}
 use Rattle.ring_rules.proofs.rings.Lists.{at_set, at_push}
 use Rattle.ring_rules.proofs.events.Refusals.{refuse_none}
 use Rattle.ring_rules.proofs.events.Enabled.{up_none}
+use Rattle.ring_rules.specs.declared.kind.CopyStep.{CopyStep}
+use Rattle.ring_rules.specs.declared.kind.CopyStep.TheVariants as copying
 use Rattle.ring_copies.specs.Copies.{CopyLink, CopyWorld, no_copy_link, copy_link_at, copy_in, copy_out, is_put_by, is_taken_by, is_gone, is_blocked_at, new_copy, copy_put, copy_gained, judged, let_go_one, let_go, item_taken, done_taken, dropped, halted_one, looked_one}
-use Rattle.ring_copies.specs.Events.{CopyEvent, OfRing, OnCopy, RefusesCopy, CopyStep, Opens, Puts, Takes, Gains, by_of, step_refusal, refused_in, refusal, effect, copies_after, step_done, done_in, let_go_by, where_found, with_copy, open_copy, take_load, take_copy, copy_put_refusal, copy_gain_refusal, copy_take_refusal, IsRun, last}
+use Rattle.ring_copies.specs.Events.{CopyEvent, OfRing, OnCopy, RefusesCopy, by_of, step_refusal, refused_in, refusal, effect, copies_after, step_done, done_in, let_go_by, where_found, with_copy, open_copy, take_load, take_copy, copy_put_refusal, copy_gain_refusal, copy_take_refusal, IsRun, last}
 
 -- the copy at a place behind a change of all
 pub map_at : (f : CopyLink → CopyLink) (cs : List CopyLink) (i : ℕ) → i < length cs → copy_link_at (map f cs) i ≡ f (copy_link_at cs i)
@@ -113,6 +115,7 @@ module _ (Q : CopyLink → Type 0) (each : StepKept Q) where
   after_kept (Reads v) w x cs h = map_kept _ (looked_kept (view_in w (member_at w x).version) x) cs h
   after_kept (Says s) w x cs h = h
   after_kept (Steps s) w x cs h = h
+  after_kept (Copying s) w x cs h = h
   after_kept (Tells code inner) w x cs h = h
 
   -- what happens at a copy that is found
@@ -127,31 +130,31 @@ module _ (Q : CopyLink → Type 0) (each : StepKept Q) where
   load_kept W y i lt h c k (OneItem a ∷ ls) e = set_kept W.copies i (item_taken (is_blocked_at W.ring y) a c) lt (each.items (is_blocked_at W.ring y) a c ls e k) h
   load_kept W y i lt h c k (Done ∷ ls) e = set_kept W.copies i (done_taken (is_blocked_at W.ring y) c) lt (each.done (is_blocked_at W.ring y) c ls e k) h
 
-  pub puts_kept : (W : CopyWorld) (x : ℕ) → step_refusal W x Puts ≡ None → OfAll Q W.copies → OfAll Q (step_done W x Puts).copies
+  pub puts_kept : (W : CopyWorld) (x : ℕ) → step_refusal W x copying.Put ≡ None → OfAll Q W.copies → OfAll Q (step_done W x copying.Put).copies
   puts_kept W x r h = at_copy W (is_put_by x) (λ i. copy_put_refusal (copy_link_at W.copies i)) (λ i. with_copy W i (copy_put (copy_link_at W.copies i))) h
       (λ i lt t free. set_kept W.copies i (copy_put (copy_link_at W.copies i)) lt (each.puts (copy_link_at W.copies i) (puts_some x (copy_link_at W.copies i) t) (refuse_none _ reason.NoCredit free) (h i lt)) h)
       (copy_out W.copies x) refl r
 
-  pub takes_kept : (W : CopyWorld) (x : ℕ) → step_refusal W x Takes ≡ None → OfAll Q W.copies → OfAll Q (step_done W x Takes).copies
+  pub takes_kept : (W : CopyWorld) (x : ℕ) → step_refusal W x copying.Take ≡ None → OfAll Q W.copies → OfAll Q (step_done W x copying.Take).copies
   takes_kept W x r h = at_copy W (is_taken_by x) (λ i. copy_take_refusal W.ring x (copy_link_at W.copies i)) (take_copy W x) h
       (λ i lt t may. load_kept W x i lt h (copy_link_at W.copies i) (h i lt) (copy_link_at W.copies i).loads refl)
       (copy_in W.copies x) refl r
 
-  pub gains_kept : (W : CopyWorld) (x : ℕ) → step_refusal W x Gains ≡ None → OfAll Q W.copies → OfAll Q (step_done W x Gains).copies
+  pub gains_kept : (W : CopyWorld) (x : ℕ) → step_refusal W x copying.Gain ≡ None → OfAll Q W.copies → OfAll Q (step_done W x copying.Gain).copies
   gains_kept W x r h = at_copy W (is_put_by x) (λ i. copy_gain_refusal (copy_link_at W.copies i)) (λ i. with_copy W i (copy_gained (copy_link_at W.copies i))) h
       (λ i lt t some. set_kept W.copies i (copy_gained (copy_link_at W.copies i)) lt (each.gains (copy_link_at W.copies i) (refuse_none _ reason.NoGrant some) (h i lt)) h)
       (copy_out W.copies x) refl r
 
 module _ (P : World → Type 0) (Q : CopyLink → Type 0) (each : EachKept P Q) where
   step_kept : (W : CopyWorld) (x : ℕ) (s : CopyStep) → P W.ring → step_refusal W x s ≡ None → OfAll Q W.copies → OfAll Q (step_done W x s).copies
-  step_kept W x (Opens target) p r h = by_target (id_of W.ring target)
+  step_kept W x (copying.Open target) p r h = by_target (id_of W.ring target)
     where
       by_target : (t : Option ℕ) → OfAll Q (where_found t W (open_copy W x)).copies
       by_target None = h
       by_target (Some n) = push_kept Q W.copies (new_copy W.ring x n) (each.opens W.ring x n p) h
-  step_kept W x Puts p r h = puts_kept Q each.steps W x r h
-  step_kept W x Takes p r h = takes_kept Q each.steps W x r h
-  step_kept W x Gains p r h = gains_kept Q each.steps W x r h
+  step_kept W x copying.Put p r h = puts_kept Q each.steps W x r h
+  step_kept W x copying.Take p r h = takes_kept Q each.steps W x r h
+  step_kept W x copying.Gain p r h = gains_kept Q each.steps W x r h
 
   done_kept : (W : CopyWorld) (e : CopyEvent) (x : ℕ) → P W.ring → refused_in W e x ≡ None → OfAll Q W.copies → OfAll Q (done_in W e x).copies
   done_kept W (OfRing e) x p r h = after_kept Q each.steps (kind_of e) (done_as W.ring x (kind_of e)) x W.copies h

@@ -9,9 +9,10 @@ use Rattle.queue_mirror.specs.Mirror.{MirrorState, joining}
 use Rattle.ring_rules.specs.View.{left_by, right_by}
 use Rattle.ring_rules.specs.Machine.{is_kept_of, member_at, newest}
 use Rattle.ring_rules.specs.Step.{opening}
+use Rattle.ring_rules.specs.declared.kind.CopyStep.TheVariants as copying
 use Rattle.ring_copies.specs.Copies.{CopyWorld, CopyLink, copy_link_at}
 use Rattle.ring_rules.specs.declared.event.Event.TheVariants as event
-use Rattle.ring_copies.specs.Events.{CopyEvent, OfRing, OnCopy, Opens, Puts, Takes, Gains, refusal, effect, without_copies}
+use Rattle.ring_copies.specs.Events.{CopyEvent, OfRing, OnCopy, refusal, effect, without_copies}
 
 abbrev a : List ℕ
 a = 97 ∷ []
@@ -58,8 +59,8 @@ mirror W q = (member_at W.ring q).mirror
 
 abbrev since_mark : List CopyEvent
 since_mark =
-    OfRing (event.Publish a x) ∷ OfRing (event.Admit a n) ∷ OfRing (event.Take n) ∷ OnCopy a (Opens n) ∷ OfRing (event.Publish a y) ∷ OfRing (event.Get a) ∷ OnCopy a Puts ∷ OnCopy a Puts ∷ OnCopy n Takes ∷ OnCopy n Takes
-    ∷ OfRing (event.Put a) ∷ OfRing (event.Take n) ∷ OnCopy n Takes ∷ OfRing (event.Synced n) ∷ []
+    OfRing (event.Publish a x) ∷ OfRing (event.Admit a n) ∷ OfRing (event.Take n) ∷ OnCopy a (copying.Open n) ∷ OfRing (event.Publish a y) ∷ OfRing (event.Get a) ∷ OnCopy a copying.Put ∷ OnCopy a copying.Put ∷ OnCopy n copying.Take ∷ OnCopy n copying.Take
+    ∷ OfRing (event.Put a) ∷ OfRing (event.Take n) ∷ OnCopy n copying.Take ∷ OfRing (event.Synced n) ∷ []
 
 -- the last load waits for the mark
 since_mark_refusals : reasons one since_mark ≡ reason.MarkNotSeen ∷ []
@@ -85,7 +86,7 @@ since_mark_view = refl
 
 abbrev cut_off : List CopyEvent
 cut_off =
-    OfRing (event.Publish a x) ∷ OfRing (event.Admit a n) ∷ OfRing (event.Take n) ∷ OnCopy a (Opens n) ∷ OnCopy a Puts ∷ OfRing (event.Stop a) ∷ OnCopy n Takes ∷ OnCopy n Takes ∷ OnCopy n Takes ∷ OfRing (event.Synced n) ∷ []
+    OfRing (event.Publish a x) ∷ OfRing (event.Admit a n) ∷ OfRing (event.Take n) ∷ OnCopy a (copying.Open n) ∷ OnCopy a copying.Put ∷ OfRing (event.Stop a) ∷ OnCopy n copying.Take ∷ OnCopy n copying.Take ∷ OnCopy n copying.Take ∷ OfRing (event.Synced n) ∷ []
 
 -- the item and the end are taken, and then n has no copy any more; its mirror misses what it did
 cut_off_refusals : reasons one cut_off ≡ reason.NoSyncLink ∷ reason.StillMissing None ∷ []
@@ -104,8 +105,8 @@ cut_off_copy = (refl, refl)
 
 abbrev openings : List CopyEvent
 openings =
-    OfRing (event.Publish a x) ∷ OfRing (event.Admit a n) ∷ OfRing (event.Take n) ∷ OnCopy a (Opens x) ∷ OnCopy n (Opens a) ∷ OnCopy a (Opens a) ∷ OnCopy a Puts ∷ OnCopy n Takes ∷ OnCopy a Gains ∷ OnCopy a (Opens n) ∷ OnCopy a (Opens n) ∷ OnCopy n Takes ∷ OnCopy a Gains
-    ∷ OnCopy a Puts ∷ OnCopy a Puts ∷ OnCopy a Puts ∷ OnCopy a (Opens n) ∷ []
+    OfRing (event.Publish a x) ∷ OfRing (event.Admit a n) ∷ OfRing (event.Take n) ∷ OnCopy a (copying.Open x) ∷ OnCopy n (copying.Open a) ∷ OnCopy a (copying.Open a) ∷ OnCopy a copying.Put ∷ OnCopy n copying.Take ∷ OnCopy a copying.Gain ∷ OnCopy a (copying.Open n) ∷ OnCopy a (copying.Open n) ∷ OnCopy n copying.Take ∷ OnCopy a copying.Gain
+    ∷ OnCopy a copying.Put ∷ OnCopy a copying.Put ∷ OnCopy a copying.Put ∷ OnCopy a (copying.Open n) ∷ []
 
 -- nobody has that name; n doesn't lead; a is registered; there is no copy yet; it is open; nothing is on it; no grant is under
 -- way; all is put; and n was marked before
@@ -124,7 +125,7 @@ lone = without_copies (opening single (a ∷ []))
 
 -- n's first packet takes all its credit
 abbrev blocked : List CopyEvent
-blocked = OfRing (event.Publish a x) ∷ OfRing (event.Publish a y) ∷ OfRing (event.Admit a n) ∷ OfRing (event.Take n) ∷ OnCopy a (Opens n) ∷ OfRing (event.Refresh n 2) ∷ OnCopy a Puts ∷ OnCopy a Puts ∷ OnCopy n Takes ∷ OnCopy a Gains ∷ []
+blocked = OfRing (event.Publish a x) ∷ OfRing (event.Publish a y) ∷ OfRing (event.Admit a n) ∷ OfRing (event.Take n) ∷ OnCopy a (copying.Open n) ∷ OfRing (event.Refresh n 2) ∷ OnCopy a copying.Put ∷ OnCopy a copying.Put ∷ OnCopy n copying.Take ∷ OnCopy a copying.Gain ∷ []
 
 abbrev copy_of_n : List CopyEvent → CopyLink
 copy_of_n es = copy_link_at (ends_in lone es).copies 0
@@ -153,7 +154,7 @@ freed_goes = (refl, refl)
 -- ---- a target that dies
 
 -- when a reads that n isn't live, its side is over
-lost_refusals : reasons one (OfRing (event.Publish a x) ∷ OfRing (event.Publish a y) ∷ OfRing (event.Admit a n) ∷ OfRing (event.Take n) ∷ OnCopy a (Opens n) ∷ OnCopy a Puts ∷ OfRing (event.Stop n) ∷ OfRing (event.Mark a n) ∷ OnCopy a Puts ∷ []) ≡ reason.NoSyncLink ∷ []
+lost_refusals : reasons one (OfRing (event.Publish a x) ∷ OfRing (event.Publish a y) ∷ OfRing (event.Admit a n) ∷ OfRing (event.Take n) ∷ OnCopy a (copying.Open n) ∷ OnCopy a copying.Put ∷ OfRing (event.Stop n) ∷ OfRing (event.Mark a n) ∷ OnCopy a copying.Put ∷ []) ≡ reason.NoSyncLink ∷ []
 unfolding left_by right_by is_kept_of
 lost_refusals = refl
 
@@ -165,7 +166,7 @@ pair = without_copies (opening eight (a ∷ b ∷ []))
 -- a stops with its copy half put, b marks and erases it, and n reads that
 abbrev orphaned : List CopyEvent
 orphaned =
-    OfRing (event.Publish a x) ∷ OfRing (event.Admit a n) ∷ OfRing (event.Take n) ∷ OnCopy a (Opens n) ∷ OnCopy a Puts ∷ OnCopy n Takes ∷ OfRing (event.Refresh n 2) ∷ OfRing (event.Refresh b 2) ∷ OfRing (event.Stop a) ∷ []
+    OfRing (event.Publish a x) ∷ OfRing (event.Admit a n) ∷ OfRing (event.Take n) ∷ OnCopy a (copying.Open n) ∷ OnCopy a copying.Put ∷ OnCopy n copying.Take ∷ OfRing (event.Refresh n 2) ∷ OfRing (event.Refresh b 2) ∷ OfRing (event.Stop a) ∷ []
 
 orphaned_aside : length (copy_link_at (ends_in pair orphaned).copies 0).aside ≡ 1
 unfolding left_by right_by is_kept_of
@@ -179,6 +180,6 @@ bereft_copy : ((copy_link_at (ends_in pair bereft).copies 0).over ≡ false) × 
 unfolding left_by right_by is_kept_of
 bereft_copy = (refl, refl, refl)
 
-bereft_refusals : reasons pair (bereft ++ OfRing (event.Erase n a) ∷ OnCopy n Takes ∷ []) ≡ reason.NoSyncLink ∷ []
+bereft_refusals : reasons pair (bereft ++ OfRing (event.Erase n a) ∷ OnCopy n copying.Take ∷ []) ≡ reason.NoSyncLink ∷ []
 unfolding left_by right_by is_kept_of
 bereft_refusals = refl

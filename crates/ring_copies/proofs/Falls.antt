@@ -24,9 +24,11 @@ use Rattle.ring_rules.specs.Event as ring
 use Rattle.ring_rules.specs.declared.event.Event.TheVariants as event
 use Rattle.ring_rules.specs.Settling.{is_repair}
 use Rattle.queue_sync.specs.Copy.{Load, OneItem, Done}
+use Rattle.ring_rules.specs.declared.kind.CopyStep.{CopyStep}
+use Rattle.ring_rules.specs.declared.kind.CopyStep.TheVariants as copying
 use Rattle.ring_copies.specs.Copies.{CopyLink, CopyWorld, no_copy_link, copy_link_at, copy_in, copy_out, is_put_by, is_taken_by, is_gone, is_blocked_at, copy_put, copy_gained, judged, let_go_one, let_go, item_taken, done_taken, dropped, looked_one, copied_mirror}
-use Rattle.ring_rules.specs.Kind.{Kind, Says, Steps, Changes, Stops, Reads, Tells, kind_of}
-use Rattle.ring_copies.specs.Events.{CopyEvent, OfRing, OnCopy, RefusesCopy, CopyStep, Opens, Puts, Takes, Gains, by_of, step_refusal, refused_in, refusal, effect, copies_after, step_done, done_in, let_go_by, where_found, take_load, copy_put_refusal, copy_gain_refusal, copy_take_refusal}
+use Rattle.ring_rules.specs.Kind.{Kind, Says, Steps, Copying, Changes, Stops, Reads, Tells, kind_of}
+use Rattle.ring_copies.specs.Events.{CopyEvent, OfRing, OnCopy, RefusesCopy, by_of, step_refusal, refused_in, refusal, effect, copies_after, step_done, done_in, let_go_by, where_found, take_load, copy_put_refusal, copy_gain_refusal, copy_take_refusal}
 use Rattle.ring_copies.specs.Work.{grants_left, copy_left, copy_left_at, copies_left, total_with_copies, is_repair_with_copies}
 use Rattle.ring_rules.proofs.work.Sums.{sum_le, sum_at}
 use Rattle.ring_rules.proofs.walks.LeftLinks.{later_member}
@@ -211,18 +213,18 @@ load_lowers W y i lt g some yl up o may (Done ∷ ls) e =
 
 -- a step on a copy that is open, by x
 abbrev is_open_step : CopyStep → Bool
-is_open_step (Opens target) = false
+is_open_step (copying.Open target) = false
 is_open_step s = true
 
 step_lowers : (W : CopyWorld) (x : ℕ) (s : CopyStep) → IsGood W.ring → 1 ≤ x → x < size W.ring → (member_at W.ring x).phase ≡ Up → step_refusal W x s ≡ None → is_open_step s ≡ true → total_with_copies (step_done W x s) + 1 ≤ total_with_copies W
-step_lowers W x (Opens target) g some lt up r is = absurd (false≢true is)
-step_lowers W x Puts g some lt up r is = at_copy W (is_put_by x) (λ i. copy_put_refusal (copy_link_at W.copies i)) _
+step_lowers W x (copying.Open target) g some lt up r is = absurd (false≢true is)
+step_lowers W x copying.Put g some lt up r is = at_copy W (is_put_by x) (λ i. copy_put_refusal (copy_link_at W.copies i)) _
     (λ i il t free. set_total W W.ring i (copy_put (copy_link_at W.copies i)) il (omega arith) (put_left (copy_link_at W.copies i) (put_open x (copy_link_at W.copies i) t) (puts_some x (copy_link_at W.copies i) t)))
     (copy_out W.copies x) refl r
-step_lowers W x Takes g some lt up r is = at_copy W (is_taken_by x) (λ i. copy_take_refusal W.ring x (copy_link_at W.copies i)) _
+step_lowers W x copying.Take g some lt up r is = at_copy W (is_taken_by x) (λ i. copy_take_refusal W.ring x (copy_link_at W.copies i)) _
     (λ i il t may. load_lowers W x i il g some lt up (take_open x (copy_link_at W.copies i) t) may (copy_link_at W.copies i).loads refl)
     (copy_in W.copies x) refl r
-step_lowers W x Gains g some lt up r is = at_copy W (is_put_by x) (λ i. copy_gain_refusal (copy_link_at W.copies i)) _
+step_lowers W x copying.Gain g some lt up r is = at_copy W (is_put_by x) (λ i. copy_gain_refusal (copy_link_at W.copies i)) _
     (λ i il t due. set_total W W.ring i (copy_gained (copy_link_at W.copies i)) il (omega arith) (gain_left (copy_link_at W.copies i) (put_open x (copy_link_at W.copies i) t) (refuse_none _ reason.NoGrant due)))
     (copy_out W.copies x) refl r
 
@@ -249,6 +251,7 @@ after_left (Changes c) w x cs ne = looks_left (view_in w (member_at w x).version
 after_left (Reads v) w x cs ne = looks_left (view_in w (member_at w x).version) x cs
 after_left (Says s) w x cs ne = omega arith
 after_left (Steps s) w x cs ne = omega arith
+after_left (Copying s) w x cs ne = omega arith
 after_left (Tells code inner) w x cs ne = omega arith
 
 -- an event of repair of the ring
@@ -273,8 +276,8 @@ ring_lowers W e f is r =
 -- each event of repair that may happen leaves less to do
 pub repairs_lower_with_copies : (W : CopyWorld) (e : CopyEvent) → IsFit W.ring → is_repair_with_copies W e ≡ true → refusal W e ≡ None → total_with_copies (effect W e) < total_with_copies W
 repairs_lower_with_copies W (OfRing e) f is r = ring_lowers W e f is r
-repairs_lower_with_copies W (OnCopy by (Opens target)) f is r = absurd (false≢true is)
-repairs_lower_with_copies W (OnCopy by Puts) f is r = copies_lower W by Puts f.good refl r
-repairs_lower_with_copies W (OnCopy by Takes) f is r = copies_lower W by Takes f.good refl r
-repairs_lower_with_copies W (OnCopy by Gains) f is r = copies_lower W by Gains f.good refl r
+repairs_lower_with_copies W (OnCopy by (copying.Open target)) f is r = absurd (false≢true is)
+repairs_lower_with_copies W (OnCopy by copying.Put) f is r = copies_lower W by copying.Put f.good refl r
+repairs_lower_with_copies W (OnCopy by copying.Take) f is r = copies_lower W by copying.Take f.good refl r
+repairs_lower_with_copies W (OnCopy by copying.Gain) f is r = copies_lower W by copying.Gain f.good refl r
 repairs_lower_with_copies W (RefusesCopy code by target) f is r = absurd (false≢true is)

@@ -13,7 +13,7 @@ use Rattle.ring_rules.specs.Rows.{Flow, counted}
 use Rattle.ring_rules.specs.View.{is_live}
 use Rattle.ring_rules.specs.Machine.{World, member_at, view_in, newest, runs}
 use Rattle.ring_rules.specs.Step.{size}
-use Rattle.ring_rules.specs.Kind.{Kind, Says, Steps, Changes, Stops, Reads, Tells}
+use Rattle.ring_rules.specs.Kind.{Kind, Says, Steps, Copying, Changes, Stops, Reads, Tells}
 use Rattle.ring_copies.specs.Copies.{CopyLink, copy_link_at, is_put_by, is_taken_by, is_gone, is_blocked_at, copy_put, copy_gained, judged, item_taken, dropped, halted_one, looked_one, let_go_one, let_go}
 use Rattle.ring_copies.specs.Events.{copies_after}
 use Rattle.ring_copies.proofs.EachCopy.{OfAll, map_to}
@@ -253,4 +253,5 @@ after_fits w x w' (Changes c) st le lt more newer held cs h = map_to (MayFit w) 
 after_fits w x w' (Reads v) st le lt more newer held cs h = map_to (MayFit w) (MayAlmost w' x) (looked_one (view_in w' (member_at w' x).version) x) (looks w x w' (Reads v) st le lt more newer held refl) cs h
 after_fits w x w' (Says s) st le lt more newer held cs h = λ i il. still w x w' (Says s) st le lt more newer held refl refl (copy_link_at cs i) (h i il)
 after_fits w x w' (Steps s) st le lt more newer held cs h = λ i il. still w x w' (Steps s) st le lt more newer held refl refl (copy_link_at cs i) (h i il)
+after_fits w x w' (Copying s) st le lt more newer held cs h = λ i il. still w x w' (Copying s) st le lt more newer held refl refl (copy_link_at cs i) (h i il)
 after_fits w x w' (Tells code inner) st le lt more newer held cs h = λ i il. still w x w' (Tells code inner) st le lt more newer held refl refl (copy_link_at cs i) (h i il)

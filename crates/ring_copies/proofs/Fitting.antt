@@ -32,8 +32,10 @@ use Rattle.ring_rules.proofs.events.Enabled.{up_none}
 use Rattle.ring_rules.proofs.runs.AllRuns.{every_run_goes_on}
 use Rattle.ring_rules.proofs.queue.Facts.{Facts}
 use Rattle.ring_rules.proofs.work.OwnEnds.{OwnEnds, reached_owns}
+use Rattle.ring_rules.specs.declared.kind.CopyStep.{CopyStep}
+use Rattle.ring_rules.specs.declared.kind.CopyStep.TheVariants as copying
 use Rattle.ring_copies.specs.Copies.{CopyLink, CopyWorld, no_copy_link, copy_link_at, copy_in, copy_out, is_put_by, is_taken_by, is_blocked_at, new_copy, copy_put, copy_gained, item_taken, done_taken, dropped, copied_mirror}
-use Rattle.ring_copies.specs.Events.{CopyEvent, OfRing, OnCopy, RefusesCopy, CopyStep, Opens, Puts, Takes, Gains, by_of, copy_put_refusal, copy_gain_refusal, copy_take_refusal, target_refusal, step_refusal, refused_in, refusal, effect, step_done, done_in, let_go_by, where_found, with_copy, open_copy, take_load, take_copy, IsRun, last, without_copies}
+use Rattle.ring_copies.specs.Events.{CopyEvent, OfRing, OnCopy, RefusesCopy, by_of, copy_put_refusal, copy_gain_refusal, copy_take_refusal, target_refusal, step_refusal, refused_in, refusal, effect, step_done, done_in, let_go_by, where_found, with_copy, open_copy, take_load, take_copy, IsRun, last, without_copies}
 use Rattle.ring_copies.proofs.Seen.{Sees, sees}
 use Rattle.ring_copies.proofs.EachCopy.{OfAll, push_kept}
 use Rattle.ring_copies.proofs.Reached.{come_facts}
@@ -108,7 +110,7 @@ module _ (credit : CreditSpec) (names : List (List ℕ)) (are : AreOpeningNames 
       there : x < size w
       there = (id_within w by x is).1
 
-      puts : step_refusal W x Puts ≡ None → Then (step_done W x Puts)
+      puts : step_refusal W x copying.Put ≡ None → Then (step_done W x copying.Put)
       puts r = by_copy (copy_out W.copies x) refl r
         where
           by_copy : (o : Option ℕ) → copy_out W.copies x ≡ o → on_link o reason.NoSyncLink (λ i. copy_put_refusal (copy_link_at W.copies i)) ≡ None → Then (where_found o W (λ i. with_copy W i (copy_put (copy_link_at W.copies i))))
@@ -116,7 +118,7 @@ module _ (credit : CreditSpec) (names : List (List ℕ)) (are : AreOpeningNames 
           by_copy (Some i) at r = λ _. goes_same W (with_copy W i (copy_put (copy_link_at W.copies i))) x refl
               (set_all (MayFit w) W.copies i (copy_put (copy_link_at W.copies i)) (position-Some (is_put_by x) W.copies i no_copy_link at).0 (put_fits w (copy_link_at W.copies i) (h i (position-Some (is_put_by x) W.copies i no_copy_link at).0)) h)
 
-      gains : step_refusal W x Gains ≡ None → Then (step_done W x Gains)
+      gains : step_refusal W x copying.Gain ≡ None → Then (step_done W x copying.Gain)
       gains r = by_copy (copy_out W.copies x) refl r
         where
           by_copy : (o : Option ℕ) → copy_out W.copies x ≡ o → on_link o reason.NoSyncLink (λ i. copy_gain_refusal (copy_link_at W.copies i)) ≡ None → Then (where_found o W (λ i. with_copy W i (copy_gained (copy_link_at W.copies i))))
@@ -124,7 +126,7 @@ module _ (credit : CreditSpec) (names : List (List ℕ)) (are : AreOpeningNames 
           by_copy (Some i) at r = λ _. goes_same W (with_copy W i (copy_gained (copy_link_at W.copies i))) x refl
               (set_all (MayFit w) W.copies i (copy_gained (copy_link_at W.copies i)) (position-Some (is_put_by x) W.copies i no_copy_link at).0 (gain_fits w (copy_link_at W.copies i) (h i (position-Some (is_put_by x) W.copies i no_copy_link at).0)) h)
 
-      takes : step_refusal W x Takes ≡ None → Then (step_done W x Takes)
+      takes : step_refusal W x copying.Take ≡ None → Then (step_done W x copying.Take)
       takes r = by_copy (copy_in W.copies x) refl r
         where
           to_me : (a b : Bool) → (a && b) ≡ true → a ≡ true
@@ -148,7 +150,7 @@ module _ (credit : CreditSpec) (names : List (List ℕ)) (are : AreOpeningNames 
           by_copy None at r = cc
           by_copy (Some i) at r = let p = position-Some (is_taken_by x) W.copies i no_copy_link at in by_load i p.0 p.1 (copy_link_at W.copies i).loads refl
 
-      opens : (target : List ℕ) → (member_at w x).phase ≡ Up → step_refusal W x (Opens target) ≡ None → Then (step_done W x (Opens target))
+      opens : (target : List ℕ) → (member_at w x).phase ≡ Up → step_refusal W x (copying.Open target) ≡ None → Then (step_done W x (copying.Open target))
       opens target up r = by_lead (lead_refusal (view_in w (member_at w x).version) x (member_at w x).started) refl (id_of w target) refl r
         where
           by_lead : (l : Option Reason) → lead_refusal (view_in w (member_at w x).version) x (member_at w x).started ≡ l → (t : Option ℕ) → id_of w target ≡ t
@@ -180,10 +182,10 @@ module _ (credit : CreditSpec) (names : List (List ℕ)) (are : AreOpeningNames 
               (after_fits w x w' kind st le there more (omega (arith, le.longer)) held W.copies h))
 
       steps : (s : CopyStep) → (member_at w x).phase ≡ Up → step_refusal W x s ≡ None → Then (step_done W x s)
-      steps (Opens target) up r = opens target up r
-      steps Puts up r = puts r
-      steps Takes up r = takes r
-      steps Gains up r = gains r
+      steps (copying.Open target) up r = opens target up r
+      steps copying.Put up r = puts r
+      steps copying.Take up r = takes r
+      steps copying.Gain up r = gains r
 
     event_fits : (e : CopyEvent) → refusal W e ≡ None → OfAll (MayFit (effect W e).ring) (effect W e).copies
     event_fits (OfRing e) r = ring_fits e r

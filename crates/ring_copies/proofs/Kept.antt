@@ -9,13 +9,13 @@ use Rattle.ring_names.specs.declared.reason.Reason.TheVariants as reason
 use Rattle.group_view.specs.Change.{AreOpeningNames}
 use Rattle.group_view.specs.View.{Group, as_id}
 use Rattle.group_view.proofs.Rings.{nat_eq-is, nat_eq-same}
-use Rattle.queue_core.specs.Queue.{Item, greatest}
+use Rattle.queue_core.specs.Queue.{greatest}
 use Rattle.queue_core.specs.declared.message.Message.{Message}
 use Rattle.queue_core.specs.declared.message.Message.TheVariants as message
 use Rattle.queue_core.specs.declared.op.Op.TheVariants as op
 use Rattle.queue_mirror.specs.Mirror.{MirrorState}
 use Rattle.queue_mirror.specs.Master.{lead_refusal, or_refused}
-use Rattle.queue_sync.specs.Copy.{Load, OneItem, Done, loads_of}
+use Rattle.queue_sync.specs.Copy.{Load, OneItem, Done}
 use Rattle.queue_laws.specs.Part as part
 use Rattle.queue_laws.specs.Moves.{Publishes}
 use Rattle.queue_laws.specs.Copies.{Copy, Copying}
@@ -27,7 +27,7 @@ use Rattle.ring_rules.specs.View.{is_live}
 use Rattle.ring_rules.specs.Refusal.{or_else, is_empty}
 use Rattle.ring_rules.specs.Machine.{World, member_at, row_at, view_in, runs, runs_phase}
 use Rattle.ring_rules.specs.Step.{size, log_of, publish_at, published, copied, copied_at, opening}
-use Rattle.ring_rules.specs.Kind.{Kind, Says, Steps, Changes, Stops, Reads, Tells, OfQueue, Marks, kind_of}
+use Rattle.ring_rules.specs.Kind.{Kind, Says, Steps, Copying as OnItsCopy, Changes, Stops, Reads, Tells, OfQueue, Marks, kind_of}
 use Rattle.ring_rules.specs.Event.{id_of, of_member, on_link, version_refusal, up_refusal, op_refusal, op_as, op_done, queue_message, at_found, done_as, done_at}
 use Rattle.ring_rules.specs.Act as ring
 use Rattle.ring_rules.specs.Act.{Act, OfKind, Copies, act_of, deed_refusal, deed_done}
@@ -40,18 +40,22 @@ use Rattle.ring_rules.proofs.runs.OwnLogs.{cast_log}
 use Rattle.ring_rules.proofs.queue.Asked.{leads_itself}
 use Rattle.ring_rules.proofs.queue.Runs.{IsKnown}
 use Rattle.ring_rules.proofs.queue.CopySteps as copy_step
+use Rattle.ring_rules.specs.declared.kind.CopyStep.{CopyStep}
+use Rattle.ring_rules.specs.declared.kind.CopyStep.TheVariants as copying
 use Rattle.ring_copies.specs.Copies.{CopyLink, CopyWorld, no_copy_link, copy_link_at, copy_in, copy_out, is_put_by, is_taken_by, is_gone, is_blocked_at, new_copy, dropped, item_taken, done_taken, copied_mirror, halted_one, looked_one, let_go}
-use Rattle.ring_copies.specs.Events.{CopyEvent, OfRing, OnCopy, RefusesCopy, CopyStep, Opens, Puts, Takes, Gains, by_of, is_done_next, copy_take_refusal, target_refusal, step_refusal, refused_in, refusal, effect, copies_after, ring_done, step_done, done_in, let_go_by, where_found, open_copy, take_load, take_copy, IsRun, last, without_copies}
+use Rattle.ring_copies.specs.Events.{CopyEvent, OfRing, OnCopy, RefusesCopy, by_of, is_done_next, copy_take_refusal, target_refusal, step_refusal, refused_in, refusal, effect, copies_after, ring_done, step_done, done_in, let_go_by, where_found, open_copy, take_load, take_copy, IsRun, last, without_copies}
+use Rattle.ring_copies.specs.Laws.{items_in}
 use Rattle.ring_copies.proofs.Seen.{found_ring}
 use Rattle.ring_copies.proofs.EachCopy.{StepKept, OfAll, map_to, push_kept, halted_kept, set_kept, let_go_kept, puts_kept, gains_kept, effect_kept}
 use Rattle.ring_copies.proofs.Ends.{Closes, closes_each, done_last}
+use Rattle.ring_copies.proofs.Rise.{items_back}
 use Rattle.ring_copies.proofs.Parts.{publishes_of}
 use Rattle.ring_copies.proofs.Sights.{AreSighted, Around, copying, copying_good, copying_gives, part_runs}
 use Rattle.ring_copies.proofs.SightSteps.{act_sighted}
 use Rattle.ring_copies.proofs.Stays.{Stays, reads_view, kind_stays}
 use Rattle.ring_copies.proofs.Reached.{IsCome, come_facts, come_known, one_more, act_around, opening_come, opening_sighted}
 use Rattle.ring_copies.proofs.DoneRight.{done_right}
-use Rattle.ring_copies.proofs.Standing.{CopyStands, items_of, to_come, put_stands, item_stands, all_come, stands_then, same_view}
+use Rattle.ring_copies.proofs.Standing.{CopyStands, to_come, put_stands, item_stands, all_come, stands_then, same_view}
 
 -- a copy that isn't over stands
 abbrev pub Stands : World → CopyLink → Type 0
@@ -119,6 +123,7 @@ module _ (w : World) (x : ℕ) (w' : World) (a : Around w w') (h : AreSighted w)
   after (Reads v) st lt cs s = map_to (Stands w) (Stands w') (looked_one seen_by x) (looks true st) cs s
   after (Says m) st lt cs s = λ i il. keeps_view false st lt refl (copy_link_at cs i) (s i il)
   after (Steps m) st lt cs s = λ i il. keeps_view false st lt refl (copy_link_at cs i) (s i il)
+  after (OnItsCopy step) st lt cs s = λ i il. keeps_view false st lt refl (copy_link_at cs i) (s i il)
   after (Tells code inner) st lt cs s = λ i il. keeps_view false st lt refl (copy_link_at cs i) (s i il)
 
 -- ---- what is known of every state
@@ -195,10 +200,6 @@ module _ (credit : CreditSpec) (names : List (List ℕ)) (are : AreOpeningNames 
         }) there refl (copy_link_at W.copies i) (s i il)
 
     -- ---- an opening
-
-    items_back : (xs : List Item) → items_of (loads_of xs) ≡ xs
-    items_back [] = refl
-    items_back (i ∷ xs) = ap (λ ys. i ∷ ys) (items_back xs)
 
     module _ (t : ℕ) (up : (member_at w x).phase ≡ Up) (leads : lead_refusal (view_in w (member_at w x).version) x (member_at w x).started ≡ None) (target : t < size w) where
       abbrev mark : Message
@@ -310,7 +311,7 @@ module _ (credit : CreditSpec) (names : List (List ℕ)) (are : AreOpeningNames 
               sym (ap (λ ks. is_done_next ks && nat_lt (row_at (member_at w x) c.sender).got c.mark) next) ∙ refuse_none (is_done_next c.loads && nat_lt (row_at (member_at w x) c.sender).got c.mark) reason.MarkNotSeen d
 
       all_here : to_come c ≡ []
-      all_here = ap (λ ks. items_of (ks ++ c.to_put)) next ∙ ap items_of (done_last c ls (k.closed i il) next)
+      all_here = ap (λ ks. items_in (ks ++ c.to_put)) next ∙ ap items_in (done_last c ls (k.closed i il) next)
 
       right : IsCopyOf w x m
       right = done_right w x m there c refl up to_x marked_yet k.sighted (all_come w c all_here (k.stands i il open_yet))
@@ -333,7 +334,7 @@ module _ (credit : CreditSpec) (names : List (List ℕ)) (are : AreOpeningNames 
     abbrev After : CopyWorld → Type 0
     After V = OfAll Closes (let_go_by x V).copies → IsCopying (n + 1) (let_go_by x V)
 
-    opens : (target : List ℕ) → up_refusal w x (step_refusal W x (Opens target)) ≡ None → After (step_done W x (Opens target))
+    opens : (target : List ℕ) → up_refusal w x (step_refusal W x (copying.Open target)) ≡ None → After (step_done W x (copying.Open target))
     opens target r =
         let u = up_none w x _ r in
         by_lead (lead_refusal (view_in w (member_at w x).version) x (member_at w x).started) refl (id_of w target) refl u.0 u.1
@@ -344,7 +345,7 @@ module _ (credit : CreditSpec) (names : List (List ℕ)) (are : AreOpeningNames 
         by_lead None leads None at up h = cc
         by_lead None leads (Some t) at up h = λ closed. opens_known t up leads (id_within w target t at).1 _ closed
 
-    takes : up_refusal w x (step_refusal W x Takes) ≡ None → After (step_done W x Takes)
+    takes : up_refusal w x (step_refusal W x copying.Take) ≡ None → After (step_done W x copying.Take)
     takes r = let u = up_none w x _ r in by_copy (copy_in W.copies x) refl u.0 u.1
       where
         by_load : (i : ℕ) → i < length W.copies → (member_at w x).phase ≡ Up → is_taken_by x (copy_link_at W.copies i) ≡ true → copy_take_refusal w x (copy_link_at W.copies i) ≡ None → (ls : List Load) → (copy_link_at W.copies i).loads ≡ ls
@@ -362,10 +363,10 @@ module _ (credit : CreditSpec) (names : List (List ℕ)) (are : AreOpeningNames 
             by_load i p.0 up p.1 h (copy_link_at W.copies i).loads refl
 
     step_known : (s : CopyStep) → up_refusal w x (step_refusal W x s) ≡ None → After (step_done W x s)
-    step_known (Opens target) r = opens target r
-    step_known Puts r = λ closed. ring_stays n W (step_done W x Puts) _ x k (found_ring W (copy_out W.copies x) _ (λ i. refl)) closed (puts_kept (Stands w) (steps_stand w) W x (up_none w x _ r).1 k.stands)
-    step_known Takes r = takes r
-    step_known Gains r = λ closed. ring_stays n W (step_done W x Gains) _ x k (found_ring W (copy_out W.copies x) _ (λ i. refl)) closed (gains_kept (Stands w) (steps_stand w) W x (up_none w x _ r).1 k.stands)
+    step_known (copying.Open target) r = opens target r
+    step_known copying.Put r = λ closed. ring_stays n W (step_done W x copying.Put) _ x k (found_ring W (copy_out W.copies x) _ (λ i. refl)) closed (puts_kept (Stands w) (steps_stand w) W x (up_none w x _ r).1 k.stands)
+    step_known copying.Take r = takes r
+    step_known copying.Gain r = λ closed. ring_stays n W (step_done W x copying.Gain) _ x k (found_ring W (copy_out W.copies x) _ (λ i. refl)) closed (gains_kept (Stands w) (steps_stand w) W x (up_none w x _ r).1 k.stands)
 
   -- ---- every event, and every run
 

@@ -1,7 +1,10 @@
 pub mod Seen
+pub mod Alone
 pub mod EachCopy
 pub mod Credit
 pub mod Ends
+pub mod Rise
+pub mod Brought
 pub mod Parts
 pub mod Sights
 pub mod SightSteps
@@ -17,4 +20,5 @@ pub mod Rest
 pub mod Quiet
 pub mod Falls
 pub mod Runs
+pub mod Beside
 pub mod Examples

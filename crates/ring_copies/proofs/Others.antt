@@ -17,7 +17,7 @@ use Rattle.ring_rules.specs.declared.kind.ViewChange.TheVariants as change
 use Rattle.ring_rules.specs.View.{right_of}
 use Rattle.ring_rules.specs.Machine.{Member, Link, World, no_member, no_link, member_at, link_at, view_in, newest, runs, runs_phase, oldest}
 use Rattle.ring_rules.specs.Step.{size, publish_at, published, put_on, take_from, taker, begin_from, begun, leave_link, finished, current_is, with_current, stop_at, stopped, end_out, ended, popped, with_member, with_link, with_view, look_at, moved_to, open_to, opened_link, come_to, joiner, admitted_view, copied, copied_at}
-use Rattle.ring_rules.specs.Kind.{Kind, Says, Steps, Changes, Stops, Reads, Tells, Saying, Own, OfQueue}
+use Rattle.ring_rules.specs.Kind.{Kind, Says, Steps, Copying, Changes, Stops, Reads, Tells, Saying, Own, OfQueue}
 use Rattle.ring_rules.specs.Event.{id_of, at_found, at_door, op_as, op_done, said, taken_by, done_as, refreshed, erased_view, synced_view}
 use Rattle.ring_rules.proofs.events.Composed.{end_composed, refresh_composed}
 use Rattle.ring_rules.proofs.events.Leaves.{member_leaves, link_leaves}
@@ -175,6 +175,7 @@ kind_leaves w x Stops own = record {
     members : (end_out Halted (stop_at w x) (member_at w x).out).members ≡ (stop_at w x).members
     members = end_composed (λ t. t.members ≡ (stop_at w x).members) Halted (stop_at w x) (member_at w x).out (λ o e k. refl) refl
 kind_leaves w x (Reads version) own = looks w w x version own (here w x) (λ q lt. refl) (λ j lt. refl) (omega arith)
+kind_leaves w x (Copying s) own = same w x false
 kind_leaves w x (Tells code inner) own = same w x false
 
 -- a copy that is done

@@ -27,8 +27,10 @@ use Rattle.ring_rules.proofs.rests.Forgotten.{retired_is_forgotten}
 use Rattle.ring_rules.proofs.walks.Ended.{runs_lt}
 use Rattle.ring_rules.proofs.queue.Facts.{Facts}
 use Rattle.ring_rules.proofs.work.Fit.{IsFit}
+use Rattle.ring_rules.specs.declared.kind.CopyStep.{CopyStep}
+use Rattle.ring_rules.specs.declared.kind.CopyStep.TheVariants as copying
 use Rattle.ring_copies.specs.Copies.{CopyLink, CopyWorld, no_copy_link, copy_link_at, copy_in, copy_out, is_put_by, is_taken_by, is_blocked_at}
-use Rattle.ring_copies.specs.Events.{CopyStep, OnCopy, Puts, Takes, Gains, copy_put_refusal, copy_gain_refusal, copy_take_refusal, is_done_next, step_refusal, refused_in, refusal}
+use Rattle.ring_copies.specs.Events.{OnCopy, copy_put_refusal, copy_gain_refusal, copy_take_refusal, is_done_next, step_refusal, refused_in, refusal}
 use Rattle.ring_copies.specs.Laws.{CopiesKeepCredit, CopiesRest}
 use Rattle.ring_copies.specs.Work.{NothingLeftWithCopies}
 use Rattle.ring_copies.proofs.EachCopy.{OfAll}
@@ -166,7 +168,7 @@ module _ (initial : ℕ) (W : CopyWorld) (f : Facts W.ring) (fit : IsFit W.ring)
     stuck = by_test (is_empty c.loads && not c.ended) refl
       where
         refused : copy_take_refusal w c.receiver c ≢ None
-        refused r = no_step c.receiver fc.going.least ry Takes (none (OnCopy (member_at w c.receiver).name Takes) refl)
+        refused r = no_step c.receiver fc.going.least ry copying.Take (none (OnCopy (member_at w c.receiver).name copying.Take) refl)
             (ap (λ o. on_link o reason.NoSyncLink (λ k. copy_take_refusal w c.receiver (copy_link_at W.copies k))) in_is ∙ r)
 
         early : nat_lt (row_at (member_at w c.receiver) c.sender).got c.mark ≡ false
@@ -226,9 +228,9 @@ module _ (initial : ℕ) (W : CopyWorld) (f : Facts W.ring) (fit : IsFit W.ring)
     -- which has no credit, and none comes: so its mirror holds grants back, but isn't blocked
     none_taken : ⊥
     none_taken =
-        let blocked : is_blocked c.flow.sender ≡ true = is_refused (is_blocked c.flow.sender) reason.NoCredit (λ r. no_step c.sender fc.going.some rm Puts (none (OnCopy (member_at w c.sender).name Puts) refl)
+        let blocked : is_blocked c.flow.sender ≡ true = is_refused (is_blocked c.flow.sender) reason.NoCredit (λ r. no_step c.sender fc.going.some rm copying.Put (none (OnCopy (member_at w c.sender).name copying.Put) refl)
         (ap (λ o. on_link o reason.NoSyncLink (λ k. copy_put_refusal (copy_link_at W.copies k))) out_is ∙ r)) in
-        let grants : c.flow.grants ≡ [] = none_left c.flow.grants (is_refused (is_empty c.flow.grants) reason.NoGrant (λ r. no_step c.sender fc.going.some rm Gains (none (OnCopy (member_at w c.sender).name Gains) refl)
+        let grants : c.flow.grants ≡ [] = none_left c.flow.grants (is_refused (is_empty c.flow.grants) reason.NoGrant (λ r. no_step c.sender fc.going.some rm copying.Gain (none (OnCopy (member_at w c.sender).name copying.Gain) refl)
         (ap (λ o. on_link o reason.NoSyncLink (λ k. copy_gain_refusal (copy_link_at W.copies k))) out_is ∙ r))) in
         let waits = (credit i il).waits blocked (ap length nothing_there) grants in
         false≢true (sym (free c.receiver ry) ∙ fc.blocked waits.1)

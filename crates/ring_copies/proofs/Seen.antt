@@ -16,8 +16,10 @@ use Rattle.ring_rules.specs.Act as ring
 use Rattle.ring_rules.specs.Act.{Act, OfKind, Copies, act_of, deed_refusal, deed_done}
 use Rattle.ring_rules.proofs.runs.InOrder.{run_append, last_append}
 use Rattle.ring_rules.proofs.events.Enabled.{up_none}
+use Rattle.ring_rules.specs.declared.kind.CopyStep.{CopyStep}
+use Rattle.ring_rules.specs.declared.kind.CopyStep.TheVariants as copying
 use Rattle.ring_copies.specs.Copies.{CopyLink, CopyWorld, copy_link_at, copy_in, copy_out, copied_mirror}
-use Rattle.ring_copies.specs.Events.{CopyEvent, OfRing, OnCopy, RefusesCopy, CopyStep, Opens, Puts, Takes, Gains, by_of, step_refusal, refused_in, refusal, effect, done_in, step_done, let_go_by, where_found, open_copy, take_load, take_copy, target_refusal, IsRun, last}
+use Rattle.ring_copies.specs.Events.{CopyEvent, OfRing, OnCopy, RefusesCopy, by_of, step_refusal, refused_in, refusal, effect, done_in, step_done, let_go_by, where_found, open_copy, take_load, take_copy, target_refusal, IsRun, last}
 
 -- acts of a ring after which it is so
 pub record Sees (w w' : World) : Type 0 where
@@ -49,7 +51,7 @@ module _ (W : CopyWorld) (by : List ℕ) (x : ℕ) (is : id_of W.ring by ≡ Som
   abbrev w : World
   w = W.ring
 
-  marks : (target : List ℕ) → up_refusal w x (step_refusal W x (Opens target)) ≡ None → Sees w (step_done W x (Opens target)).ring
+  marks : (target : List ℕ) → up_refusal w x (step_refusal W x (copying.Open target)) ≡ None → Sees w (step_done W x (copying.Open target)).ring
   marks target k =
       let u = up_none w x _ k in
       by_lead (lead_refusal (view_in w (member_at w x).version) x (member_at w x).started) refl (id_of w target) u.1
@@ -68,7 +70,7 @@ module _ (W : CopyWorld) (by : List ℕ) (x : ℕ) (is : id_of W.ring by ≡ Som
           (ap (λ o. of_member o (λ y. deed_refusal w y a.deed)) is ∙ ap (λ o. up_refusal w x (op_refusal o)) asked ∙ (rw up refl))
           (ap (λ o. at_found o w (λ y. deed_done w y a.deed)) is ∙ ap (op_done w x) asked)
 
-  takes : up_refusal w x (step_refusal W x Takes) ≡ None → Sees w (step_done W x Takes).ring
+  takes : up_refusal w x (step_refusal W x copying.Take) ≡ None → Sees w (step_done W x copying.Take).ring
   takes k = by_copy (copy_in W.copies x)
     where
       up : (member_at w x).phase ≡ Up
@@ -86,10 +88,10 @@ module _ (W : CopyWorld) (by : List ℕ) (x : ℕ) (is : id_of W.ring by ≡ Som
       by_copy (Some i) = by_load i (copy_link_at W.copies i) (copy_link_at W.copies i).loads
 
   steps : (s : CopyStep) → up_refusal w x (step_refusal W x s) ≡ None → Sees w (step_done W x s).ring
-  steps (Opens target) k = marks target k
-  steps Puts k = nothing w _ (sym (found_ring W (copy_out W.copies x) _ (λ i. refl)))
-  steps Takes k = takes k
-  steps Gains k = nothing w _ (sym (found_ring W (copy_out W.copies x) _ (λ i. refl)))
+  steps (copying.Open target) k = marks target k
+  steps copying.Put k = nothing w _ (sym (found_ring W (copy_out W.copies x) _ (λ i. refl)))
+  steps copying.Take k = takes k
+  steps copying.Gain k = nothing w _ (sym (found_ring W (copy_out W.copies x) _ (λ i. refl)))
 
 -- ---- each event
 

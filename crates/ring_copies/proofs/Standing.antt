@@ -1,26 +1,20 @@
 -- A copy under way brings the queue as of its mark.
 use Rattle.std.proofs.Common.{◌≡◌, ◌<◌, Bool, true, false, List, [], ◌∷◌, ◌++◌, sym, ap, ◌∙◌, arith}
-use Rattle.std.specs.Prelude.{take, drop}
-use Rattle.std.proofs.lemmas.List.{append_assoc, take-append-drop}
 use Rattle.queue_core.specs.Queue.{Item}
-use Rattle.queue_sync.specs.Copy.{Load, OneItem, Done}
+use Rattle.queue_sync.specs.Copy.{Load, OneItem}
 use Rattle.queue_laws.specs.Copies.{Copy}
 use Rattle.queue_laws.proofs.Copied.{IsCopied, copied_onward}
 use Rattle.ring_rules.specs.Machine.{World, member_at, runs}
 use Rattle.ring_rules.specs.Step.{size}
 use Rattle.ring_rules.specs.QueuePart.{part_of}
 use Rattle.ring_copies.specs.Copies.{CopyLink, copy_put, item_taken}
+use Rattle.ring_copies.specs.Laws.{items_in}
+use Rattle.ring_copies.proofs.Rise.{put_items, taken_items}
 use Rattle.ring_copies.proofs.Sights.{AreSighted, Around, copying, onward, part_runs}
-
--- the items among these loads
-abbrev pub items_of : List Load → List Item
-items_of [] = []
-items_of (OneItem i ∷ ls) = i ∷ items_of ls
-items_of (Done ∷ ls) = items_of ls
 
 -- the items that are to come
 abbrev pub to_come : CopyLink → List Item
-to_come c = items_of (c.loads ++ c.to_put)
+to_come c = items_in (c.loads ++ c.to_put)
 
 -- a copy, as the laws of the queue see it
 abbrev pub as_copy : CopyLink → Copy
@@ -39,14 +33,13 @@ with_items w c aside rest e h = record { origin = h.origin; unseen = h.unseen; m
 pub put_stands : (w : World) (c : CopyLink) → CopyStands w c → CopyStands w (copy_put c)
 put_stands w c h = record {
   receiver = h.receiver;
-  copied = with_items w (as_copy c) c.aside (to_come (copy_put c)) (ap (λ ls. c.aside ++ items_of ls) (append_assoc c.loads (take 1 c.to_put) (drop 1 c.to_put) ∙ ap (λ ls. c.loads ++ ls) (take-append-drop 1 c.to_put))) h.copied;
+  copied = with_items w (as_copy c) c.aside (to_come (copy_put c)) (put_items c) h.copied;
 }
 
 pub item_stands : (w : World) (b : Bool) (a : Item) (c : CopyLink) (ls : List Load) → c.loads ≡ OneItem a ∷ ls → CopyStands w c → CopyStands w (item_taken b a c)
 item_stands w b a c ls e h = record {
   receiver = h.receiver;
-  copied = with_items w (as_copy c) (c.aside ++ a ∷ []) (to_come (item_taken b a c))
-      (ap (λ ks. (c.aside ++ a ∷ []) ++ items_of (drop 1 ks ++ c.to_put)) e ∙ append_assoc c.aside (a ∷ []) (items_of (ls ++ c.to_put)) ∙ sym (ap (λ ks. c.aside ++ items_of (ks ++ c.to_put)) e)) h.copied;
+  copied = with_items w (as_copy c) (c.aside ++ a ∷ []) (to_come (item_taken b a c)) (taken_items b a c ls e) h.copied;
 }
 
 -- where Done is next, all has come

@@ -15,7 +15,7 @@ use Rattle.ring_rules.specs.declared.kind.ViewChange.TheVariants as change
 use Rattle.ring_rules.specs.View.{right_of}
 use Rattle.ring_rules.specs.Machine.{Member, World, no_member, member_at, link_at, view_in, newest, runs, runs_phase, oldest}
 use Rattle.ring_rules.specs.Step.{size, publish_at, published, put_on, take_from, taker, begin_from, begun, leave_link, current_is, with_current, stop_at, stopped, end_out, with_member, with_view, moved_to, opened_link, come_to, joiner, copied, copied_at}
-use Rattle.ring_rules.specs.Kind.{Kind, Says, Steps, Changes, Stops, Reads, Tells, Saying, Own, OfQueue}
+use Rattle.ring_rules.specs.Kind.{Kind, Says, Steps, Copying, Changes, Stops, Reads, Tells, Saying, Own, OfQueue}
 use Rattle.ring_rules.specs.Event.{id_of, at_found, at_door, op_as, op_done, said, taken_by, done_as, refreshed, erased_view, synced_view}
 use Rattle.ring_rules.proofs.events.Composed.{end_composed, refresh_composed}
 use Rattle.ring_rules.proofs.events.Leaves.{member_leaves}
@@ -103,6 +103,7 @@ kind_stays w x (Changes change.Register) = looks w (with_view w (synced_view w x
 kind_stays w x Stops = written w x false (stopped (member_at w x)) (end_out Halted (stop_at w x) (member_at w x).out)
     (end_composed (λ v. v.members ≡ (stop_at w x).members) Halted (stop_at w x) (member_at w x).out (λ o e k. refl) refl) (λ r. absurd (false≢true r)) refl
 kind_stays w x (Reads version) = looks w w x version (λ q lt. refl)
+kind_stays w x (Copying s) = same w x false
 kind_stays w x (Tells code inner) = same w x false
 
 -- a copy that is done

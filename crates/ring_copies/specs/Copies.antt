@@ -4,7 +4,7 @@ use Rattle.queue_core.specs.declared.op.Op.{Op}
 use Rattle.queue_core.specs.Queue.{Item, QueueState}
 use Rattle.queue_core.specs.Legal.{run}
 use Rattle.queue_mirror.specs.Mirror.{MirrorState, copy_of}
-use Rattle.queue_sync.specs.Copy.{Load, loads_of}
+use Rattle.queue_sync.specs.Copy.{Load, loads_of, kept_aside}
 use Rattle.queue_laws.specs.Part.{ops}
 use Rattle.queue_laws.specs.Copies.{high, next_run}
 use Rattle.credit_flow.specs.Credit.{is_blocked, holding_back, released}
@@ -128,6 +128,11 @@ done_taken blocked c = record (load_taken blocked c) { aside = []; over = true }
 -- the copy is over before that, and what it brought is dropped
 abbrev pub dropped : CopyLink → CopyLink
 dropped c = record c { aside = []; over = true }
+
+-- these items kept aside, one after another
+abbrev pub all_kept : List Item → QueueState → QueueState
+all_kept [] q = q
+all_kept (i ∷ xs) q = all_kept xs (kept_aside i q)
 
 -- the operations of the copy's master behind the mark, as far as y has received them
 abbrev pub since_copy : World → ℕ → CopyLink → List Op

@@ -16,26 +16,31 @@ use Rattle.ring_rules.specs.View.{is_live}
 use Rattle.ring_rules.specs.Refusal.{refuse_if, or_else, is_empty}
 use Rattle.ring_rules.specs.Machine.{World, member_at, view_in, row_at}
 use Rattle.ring_rules.specs.Step.{log_of, publish_at, copied_at}
-use Rattle.ring_rules.specs.Kind.{Kind, Changes, Stops, Reads, kind_of}
+use Rattle.ring_rules.specs.Kind.{Kind, Copying, Changes, Stops, Reads, Tells, kind_of}
+use Rattle.ring_rules.specs.declared.kind.CopyStep.{CopyStep}
+use Rattle.ring_rules.specs.declared.kind.CopyStep.TheVariants as copying
+use Rattle.ring_rules.specs.declared.event.Client.TheVariants as client
 use Rattle.ring_rules.specs.Event as ring
 use Rattle.ring_rules.specs.declared.event.Event.{Event}
 use Rattle.ring_rules.specs.Event.{id_of, of_member, on_link, version_refusal, up_refusal, is_told, refused_at, done_as}
 use Rattle.ring_copies.specs.Copies.{CopyLink, CopyWorld, copy_link_at, copy_out, copy_in, new_copy, copy_put, copy_gained, is_blocked_at, let_go, item_taken, done_taken, dropped, copied_mirror, halted_one, looked_one}
 
--- what a member does on a copy: as master it opens one to the member of a name, puts its next load, or gains credit; and as
--- mirror it takes the oldest load
-pub data CopyStep : Type 0 where
-  Opens : List ℕ → CopyStep
-  Puts : CopyStep
-  Takes : CopyStep
-  Gains : CopyStep
-
--- an event of the ring; a step on a copy, by the member of a name; or a client is refused with this number that the member of
--- the first name opens a copy to that of the second
+-- what an event is beside the copies: one of the ring; a step on a copy, by the member of a name; or a client is refused with
+-- this number that the member of the first name opens a copy to that of the second
 pub data CopyEvent : Type 0 where
   OfRing : Event → CopyEvent
   OnCopy : List ℕ → CopyStep → CopyEvent
   RefusesCopy : ℕ → List ℕ → List ℕ → CopyEvent
+
+-- an event of this kind
+abbrev pub sorted : Event → Kind → CopyEvent
+sorted e (Copying s) = OnCopy (ring.by_of e) s
+sorted e (Tells code (client.Sync by target)) = RefusesCopy code by target
+sorted e k = OfRing e
+
+-- any event
+abbrev pub sort_of : Event → CopyEvent
+sort_of e = sorted e (kind_of e)
 
 -- the name of who acts
 abbrev pub by_of : CopyEvent → List ℕ
@@ -87,19 +92,19 @@ copy_take_refusal w y c =
 
 -- the conditions on a step on a copy, behind those on the phase of member x
 abbrev pub step_refusal : CopyWorld → ℕ → CopyStep → Option Reason
-step_refusal W x (Opens target) =
+step_refusal W x (copying.Open target) =
     or_else (lead_refusal (view_in W.ring (member_at W.ring x).version) x (member_at W.ring x).started)
     (of_member (id_of W.ring target) (target_refusal W x (view_in W.ring (member_at W.ring x).version)))
-step_refusal W x Puts = on_link (copy_out W.copies x) reason.NoSyncLink (λ i. copy_put_refusal (copy_link_at W.copies i))
-step_refusal W x Takes = on_link (copy_in W.copies x) reason.NoSyncLink (λ i. copy_take_refusal W.ring x (copy_link_at W.copies i))
-step_refusal W x Gains = on_link (copy_out W.copies x) reason.NoSyncLink (λ i. copy_gain_refusal (copy_link_at W.copies i))
+step_refusal W x copying.Put = on_link (copy_out W.copies x) reason.NoSyncLink (λ i. copy_put_refusal (copy_link_at W.copies i))
+step_refusal W x copying.Take = on_link (copy_in W.copies x) reason.NoSyncLink (λ i. copy_take_refusal W.ring x (copy_link_at W.copies i))
+step_refusal W x copying.Gain = on_link (copy_out W.copies x) reason.NoSyncLink (λ i. copy_gain_refusal (copy_link_at W.copies i))
 
 -- the first failing condition of an event of member x: only one that is up does a step on a copy, and a refusal is told only
 -- where what the client asked for is refused with its number
 abbrev pub refused_in : CopyWorld → CopyEvent → ℕ → Option Reason
 refused_in W (OfRing e) x = refused_at W.ring e x
 refused_in W (OnCopy by s) x = up_refusal W.ring x (step_refusal W x s)
-refused_in W (RefusesCopy code by target) x = refuse_if (not (is_told code (up_refusal W.ring x (step_refusal W x (Opens target))))) reason.NotRefused
+refused_in W (RefusesCopy code by target) x = refuse_if (not (is_told code (up_refusal W.ring x (step_refusal W x (copying.Open target))))) reason.NotRefused
 
 -- of an event, if one fails
 abbrev pub refusal : CopyWorld → CopyEvent → Option Reason
@@ -143,10 +148,10 @@ ring_done W x k = record { ring = done_as W.ring x k; copies = copies_after k (d
 
 -- a step on a copy
 abbrev pub step_done : CopyWorld → ℕ → CopyStep → CopyWorld
-step_done W x (Opens target) = where_found (id_of W.ring target) W (open_copy W x)
-step_done W x Puts = where_found (copy_out W.copies x) W (λ i. with_copy W i (copy_put (copy_link_at W.copies i)))
-step_done W x Takes = where_found (copy_in W.copies x) W (take_copy W x)
-step_done W x Gains = where_found (copy_out W.copies x) W (λ i. with_copy W i (copy_gained (copy_link_at W.copies i)))
+step_done W x (copying.Open target) = where_found (id_of W.ring target) W (open_copy W x)
+step_done W x copying.Put = where_found (copy_out W.copies x) W (λ i. with_copy W i (copy_put (copy_link_at W.copies i)))
+step_done W x copying.Take = where_found (copy_in W.copies x) W (take_copy W x)
+step_done W x copying.Gain = where_found (copy_out W.copies x) W (λ i. with_copy W i (copy_gained (copy_link_at W.copies i)))
 
 -- what member x does
 abbrev pub done_in : CopyWorld → CopyEvent → ℕ → CopyWorld

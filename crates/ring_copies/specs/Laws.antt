@@ -1,5 +1,7 @@
 -- The laws of copies.
-use Rattle.std.specs.Prelude.{◌≡◌, ℕ, ◌<◌, true, false, [], length}
+use Rattle.std.specs.Prelude.{◌≡◌, ℕ, ◌<◌, true, false, List, [], ◌∷◌, ◌++◌, length}
+use Rattle.queue_core.specs.Queue.{Item, rises, is_above, greatest}
+use Rattle.queue_sync.specs.Copy.{Load, OneItem, Done}
 use Rattle.ring_rules.specs.Machine.{runs}
 use Rattle.credit_flow.specs.Link.{Link as CreditLink, KeepsCredit as KeepsLoads}
 use Rattle.ring_rules.specs.Laws.{IsLawful}
@@ -14,6 +16,20 @@ credit_of_copy c = record { sender = c.flow.sender; loads = length c.loads; rece
 -- since the last grant, the grants under way and those held back are together the initial credit.
 abbrev pub CopiesKeepCredit : ℕ → CopyWorld → Type 0
 CopiesKeepCredit initial W = (i : ℕ) → i < length W.copies → KeepsLoads initial (credit_of_copy (copy_link_at W.copies i))
+
+-- the items among loads
+abbrev pub items_in : List Load → List Item
+items_in [] = []
+items_in (OneItem i ∷ ls) = i ∷ items_in ls
+items_in (Done ∷ ls) = items_in ls
+
+-- the items of a copy: those kept aside, those on the way and those to be put
+abbrev pub items_of : CopyLink → List Item
+items_of c = c.aside ++ items_in (c.loads ++ c.to_put)
+
+-- in each copy the positions of its items rise, and stay below the greatest: a receiver drops none
+abbrev pub CopiesRise : CopyWorld → Type 0
+CopiesRise W = (i : ℕ) → i < length W.copies → (rises (items_of (copy_link_at W.copies i)) ≡ true) × (is_above greatest (items_of (copy_link_at W.copies i)) ≡ true)
 
 -- in every state the ring is lawful, and its copies keep their credit
 pub record IsLawfulWithCopies (initial : ℕ) (W : CopyWorld) : Type 0 where

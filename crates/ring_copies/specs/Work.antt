@@ -3,8 +3,9 @@ use Rattle.std.specs.Prelude.{◌≡◌, ◌≢◌, ℕ, ◌+◌, ◌*◌, ◌==
 use Rattle.ring_rules.specs.Rows.{Flow}
 use Rattle.ring_rules.specs.Work.{sum_below, total}
 use Rattle.ring_rules.specs.Settling.{is_repair}
+use Rattle.ring_rules.specs.declared.kind.CopyStep.TheVariants as copying
 use Rattle.ring_copies.specs.Copies.{CopyLink, CopyWorld, copy_link_at}
-use Rattle.ring_copies.specs.Events.{CopyEvent, OfRing, OnCopy, RefusesCopy, Opens, refusal, effect}
+use Rattle.ring_copies.specs.Events.{CopyEvent, OfRing, OnCopy, RefusesCopy, refusal, effect}
 
 -- the grants of a copy, under way or held back; what is held goes under way as one
 abbrev pub grants_left : Flow → ℕ
@@ -30,7 +31,7 @@ total_with_copies W = total W.ring + copies_left W.copies
 -- whether an event is one of repair: a step on a copy that is open, or of the ring
 abbrev pub is_repair_with_copies : CopyWorld → CopyEvent → Bool
 is_repair_with_copies W (OfRing e) = is_repair W.ring e
-is_repair_with_copies W (OnCopy by (Opens target)) = false
+is_repair_with_copies W (OnCopy by (copying.Open target)) = false
 is_repair_with_copies W (OnCopy by s) = true
 is_repair_with_copies W (RefusesCopy code by target) = false
 

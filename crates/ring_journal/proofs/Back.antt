@@ -5,8 +5,8 @@ use Rattle.std.proofs.lemmas.Bool.{and_parts}
 use Rattle.std.proofs.lemmas.Bool.Decides.{nat_tests}
 use Rattle.ring_rules.specs.declared.event.Event.{Event}
 use Rattle.ring_rules.specs.declared.event.Event.TheVariants.{Refuse}
-use Rattle.ring_world.specs.Reached.{WorldSeen}
-use Rattle.ring_rules.specs.Event.{refusal}
+use Rattle.ring_world.specs.Reached.{WorldSeen, with_copies}
+use Rattle.ring_copies.specs.Runs.{refusal}
 use Rattle.serde_json.specs.Data.{Data, string, no_items}
 use Rattle.serde_json.specs.View.{items_of}
 use Rattle.serde_json.specs.Written.{compact_text}
@@ -75,4 +75,4 @@ judged-events_text w done number [] h = refl
 judged-events_text w done number (e ∷ es) h =
     ap (judged w done number) (lines_of-line (compact_text (data_of e)) (events_text es) (text-data_of e h.0).text.text)
     ∙ ap (λ r. unless_wrong w number r (λ f. judged (behind w f) (done ++ f ∷ []) (number + 1) (lines_of (events_text es)))) (event_on-line e h.0)
-    ∙ ap (unless_refused number (refusal w.ring e)) (judged-events_text (behind w e) (done ++ e ∷ []) (number + 1) es h.1)
+    ∙ ap (unless_refused number (refusal (with_copies w) e)) (judged-events_text (behind w e) (done ++ e ∷ []) (number + 1) es h.1)

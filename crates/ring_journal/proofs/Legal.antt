@@ -3,9 +3,11 @@ use Rattle.std.proofs.Common.{◌≡◌, ℕ, ◌+◌, List, [], ◌∷◌, ◌+
 use Rattle.ring_names.specs.declared.numbers.CreditSpec.{CreditSpec}
 use Rattle.ring_names.specs.declared.reason.Reason.{Reason}
 use Rattle.ring_rules.specs.declared.event.Event.{Event}
-use Rattle.ring_world.specs.Reached.{WorldSeen}
+use Rattle.ring_world.specs.Reached.{WorldSeen, with_copies}
+use Rattle.ring_copies.specs.Copies.{CopyWorld}
+use Rattle.ring_copies.specs.Runs.{refusal, effect, IsRun, last, without_copies}
 use Rattle.ring_rules.specs.Step.{opening}
-use Rattle.ring_rules.specs.Event.{refusal, effect, IsRun, last, refusals_of}
+use Rattle.ring_rules.specs.Event.{refusals_of}
 use Rattle.ring_script.specs.Words.{lines_of}
 use Rattle.ring_journal.specs.declared.fault.Kind.{Kind}
 use Rattle.ring_journal.specs.declared.verdict.Verdict.{Verdict}
@@ -22,8 +24,8 @@ use Rattle.ring_journal.proofs.Whole.{refusals_more}
 record Goes (w : WorldSeen) (done : List Event) (end : WorldSeen) (events : List Event) : Type 0 where
   pub more : List Event
   pub all : events ≡ done ++ more
-  pub run : IsRun w.ring more
-  pub ring : end.ring ≡ last w.ring more
+  pub run : IsRun (with_copies w) more
+  pub ring : with_copies end ≡ last (with_copies w) more
   pub refusals : end.refusals ≡ w.refusals ++ refusals_of more
 
 world_in : WorldSeen → Verdict → WorldSeen
@@ -42,11 +44,11 @@ none_left w end done events e = record {
   more = [];
   all = sym (ap events_in e) ∙ sym (append-nil done);
   run = tt;
-  ring = ap (λ v. v.ring) (sym (ap (world_in w) e));
+  ring = ap with_copies (sym (ap (world_in w) e));
   refusals = ap (λ v. v.refusals) (sym (ap (world_in w) e)) ∙ sym (append-nil w.refusals);
 }
 
-one_more : (w end : WorldSeen) (done events : List Event) (e : Event) → refusal w.ring e ≡ None → Goes (behind w e) (done ++ e ∷ []) end events → Goes w done end events
+one_more : (w end : WorldSeen) (done events : List Event) (e : Event) → refusal (with_copies w) e ≡ None → Goes (behind w e) (done ++ e ∷ []) end events → Goes w done end events
 one_more w end done events e enabled g = record {
   more = e ∷ g.more;
   all = g.all ∙ append_assoc done (e ∷ []) g.more;
@@ -55,7 +57,7 @@ one_more w end done events e enabled g = record {
   refusals = g.refusals ∙ append_assoc w.refusals (refusals_of (e ∷ [])) (refusals_of g.more) ∙ ap (λ rs. w.refusals ++ rs) (refusals_more e g.more);
 }
 
-enabled_by : (w end : WorldSeen) (done events : List Event) (number : ℕ) (e : Event) (o : Option Reason) (later : Verdict) → refusal w.ring e ≡ o → unless_refused number o later ≡ Legal end events
+enabled_by : (w end : WorldSeen) (done events : List Event) (number : ℕ) (e : Event) (o : Option Reason) (later : Verdict) → refusal (with_copies w) e ≡ o → unless_refused number o later ≡ Legal end events
     → (later ≡ Legal end events → Goes (behind w e) (done ++ e ∷ []) end events) → Goes w done end events
 enabled_by w end done events number e None later r h go = one_more w end done events e r (go h)
 enabled_by w end done events number e (Some reason) later r h go = absurd cc
@@ -65,7 +67,7 @@ goes_by : (w end : WorldSeen) (done events : List Event) (number : ℕ) (said : 
     → ((e : Event) → judged (behind w e) (done ++ e ∷ []) (number + 1) lines ≡ Legal end events → Goes (behind w e) (done ++ e ∷ []) end events) → Goes w done end events
 goes_by w end done events number (Err kind) lines h go = absurd cc
 goes_by w end done events number (Ok e) lines h go =
-    enabled_by w end done events number e (refusal w.ring e) (judged (behind w e) (done ++ e ∷ []) (number + 1) lines) refl h (go e)
+    enabled_by w end done events number e (refusal (with_copies w) e) (judged (behind w e) (done ++ e ∷ []) (number + 1) lines) refl h (go e)
 
 goes : (w end : WorldSeen) (done events : List Event) (number : ℕ) (lines : List (List ℕ)) → judged w done number lines ≡ Legal end events → Goes w done end events
 goes w end done events number [] h = none_left w end done events h
@@ -78,15 +80,15 @@ pub record Ends (w : WorldSeen) (events : List Event) : Type 0 where
   pub names : List (List ℕ)
   pub left : IsLeftBy w credit names events
 
-end_of : (credit : CreditSpec) (names : List (List ℕ)) (end : WorldSeen) (events more : List Event) → events ≡ more → IsRun (opening credit names) more → end.ring ≡ last (opening credit names) more
+end_of : (credit : CreditSpec) (names : List (List ℕ)) (end : WorldSeen) (events more : List Event) → events ≡ more → IsRun (without_copies (opening credit names)) more → with_copies end ≡ last (without_copies (opening credit names)) more
     → end.refusals ≡ refusals_of more → AreOpeningNames names → Ends end events
 end_of credit names end events more same run ring refusals are = record {
   credit = credit;
   names = names;
   left = record {
     are = are;
-    run = subst (λ es. IsRun (opening credit names) es) (sym same) run;
-    ring = ring ∙ ap (last (opening credit names)) (sym same);
+    run = subst (λ es. IsRun (without_copies (opening credit names)) es) (sym same) run;
+    ring = ring ∙ ap (last (without_copies (opening credit names))) (sym same);
     refusals = refusals ∙ ap refusals_of (sym same);
   };
 }
@@ -107,7 +109,7 @@ legal_is_run bytes end events h = legal_lines (lines_of bytes) end events h
 -- ---- from each earlier state on
 
 -- a run of events one behind the other is a run, and then a run from there on
-pub parted : (w : World) (earlier later : List Event) → IsRun w (earlier ++ later) → IsRun w earlier × IsRun (last w earlier) later × (last w (earlier ++ later) ≡ last (last w earlier) later)
+pub parted : (w : CopyWorld) (earlier later : List Event) → IsRun w (earlier ++ later) → IsRun w earlier × IsRun (last w earlier) later × (last w (earlier ++ later) ≡ last (last w earlier) later)
 parted w [] later h = (tt, h, refl)
 parted w (e ∷ es) later h =
     let rest = parted (effect w e) es later h.1 in

@@ -9,15 +9,17 @@ use Rattle.group_view.specs.Since.{no_group}
 use Rattle.group_view.specs.Change.{opening as opening_group}
 use Rattle.ring_rules.specs.Rows.{full_flow}
 use Rattle.ring_rules.specs.View.{right_of}
-use Rattle.ring_world.specs.Reached.{WorldSeen}
+use Rattle.ring_world.specs.Reached.{WorldSeen, with_copies}
+use Rattle.ring_copies.specs.Copies.{CopyWorld}
+use Rattle.ring_copies.specs.Runs.{effect, IsRun, last}
 use Rattle.ring_rules.specs.Step.{opening, opening_member}
 use Rattle.ring_rules.specs.Machine.{World, Link, no_member, no_sending}
-use Rattle.ring_rules.specs.Event.{effect, IsRun, last, refusals_of, is_refusal}
+use Rattle.ring_rules.specs.Event.{refusals_of, is_refusal}
 use Rattle.serde_json.specs.Written.{compact_text}
 use Rattle.ring_script.specs.Words.{lines_of}
 use Rattle.ring_journal.specs.declared.verdict.Verdict.{Verdict}
 use Rattle.ring_journal.specs.declared.verdict.Verdict.TheVariants.{Legal}
-use Rattle.ring_journal.specs.Text.{opened, judged, behind, unless_refused, JudgedAll, JudgedBehind, IsVerdictOf}
+use Rattle.ring_journal.specs.Text.{seen_as, opened, judged, behind, unless_refused, JudgedAll, JudgedBehind, IsVerdictOf}
 use Rattle.ring_journal.specs.Written.{header_data, events_text, journal_text}
 use Rattle.ring_journal.specs.Played.{played, IsWritable}
 use Rattle.ring_journal.proofs.Back.{lines_of-line, AreWritable, judged-events_text}
@@ -53,7 +55,7 @@ written_is_played members credit events verdict o h w v =
     let found : JudgedBehind (Ok (record { members = members; initial = credit.initial; more = credit.more })) (lines_of (events_text events)) verdict =
     subst (λ r. JudgedBehind r (lines_of (events_text events)) verdict) first all in
     let world = same_opening found.0 credit members found.1 found.2 in
-    found.3 ∙ ap (λ r. judged (record { ring = r; refusals = [] }) [] 2 (lines_of (events_text events))) world
+    found.3 ∙ ap (λ r. judged (record { ring = r; copies = []; refusals = [] }) [] 2 (lines_of (events_text events))) world
     ∙ judged-events_text (opened credit members) [] 2 events (are_writable events w)
 
 -- ---- a run is legal
@@ -65,11 +67,11 @@ more_by false e es = refl
 pub refusals_more : (e : Event) (es : List Event) → refusals_of (e ∷ []) ++ refusals_of es ≡ refusals_of (e ∷ es)
 refusals_more e es = more_by (is_refusal e) e (refusals_of es)
 
-pub played_run : (w : WorldSeen) (done : List Event) (number : ℕ) (es : List Event) → IsRun w.ring es
-    → played w done number es ≡ Legal (record { ring = last w.ring es; refusals = w.refusals ++ refusals_of es }) (done ++ es)
-played_run w done number [] h = ap (λ rs. Legal (record { ring = w.ring; refusals = rs }) done) (sym (append-nil w.refusals)) ∙ ap (Legal (record { ring = w.ring; refusals = w.refusals ++ [] })) (sym (append-nil done))
+pub played_run : (w : WorldSeen) (done : List Event) (number : ℕ) (es : List Event) → IsRun (with_copies w) es
+    → played w done number es ≡ Legal (seen_as (last (with_copies w) es) (w.refusals ++ refusals_of es)) (done ++ es)
+played_run w done number [] h = ap (λ rs. Legal (seen_as (with_copies w) rs) done) (sym (append-nil w.refusals)) ∙ ap (Legal (seen_as (with_copies w) (w.refusals ++ []))) (sym (append-nil done))
 played_run w done number (e ∷ es) h =
     ap (λ r. unless_refused number r (played (behind w e) (done ++ e ∷ []) (number + 1) es)) h.0
     ∙ played_run (behind w e) (done ++ e ∷ []) (number + 1) es h.1
-    ∙ ap (λ rs. Legal (record { ring = last (effect w.ring e) es; refusals = rs }) ((done ++ e ∷ []) ++ es)) (append_assoc w.refusals (refusals_of (e ∷ [])) (refusals_of es) ∙ ap (λ rs. w.refusals ++ rs) (refusals_more e es))
-    ∙ ap (Legal (record { ring = last (effect w.ring e) es; refusals = w.refusals ++ refusals_of (e ∷ es) })) (append_assoc done (e ∷ []) es)
+    ∙ ap (λ rs. Legal (seen_as (last (effect (with_copies w) e) es) rs) ((done ++ e ∷ []) ++ es)) (append_assoc w.refusals (refusals_of (e ∷ [])) (refusals_of es) ∙ ap (λ rs. w.refusals ++ rs) (refusals_more e es))
+    ∙ ap (Legal (seen_as (last (effect (with_copies w) e) es) (w.refusals ++ refusals_of (e ∷ es)))) (append_assoc done (e ∷ []) es)

@@ -3,8 +3,10 @@ use Rattle.std.specs.Prelude.{◌≡◌, ℕ, ◌+◌, ◌++◌, nat_lt, if◌th
 use Rattle.std.specs.Str.{is_utf8}
 use Rattle.ring_names.specs.declared.reason.Reason.{Reason}
 use Rattle.ring_rules.specs.declared.event.Event.{Event}
-use Rattle.ring_world.specs.Reached.{WorldSeen}
-use Rattle.ring_rules.specs.Event.{refusal, effect, refusals_of}
+use Rattle.ring_world.specs.Reached.{WorldSeen, with_copies}
+use Rattle.ring_rules.specs.Event.{refusals_of}
+use Rattle.ring_copies.specs.Copies.{CopyWorld}
+use Rattle.ring_copies.specs.Runs.{refusal, effect}
 use Rattle.ring_rules.specs.Step.{opening}
 use Rattle.ring_script.specs.Words.{lines_of}
 use Rattle.ring_script.specs.Line.{most_line_bytes}
@@ -54,9 +56,13 @@ header_on line = said_by header_in (value_on line)
 
 -- ---- all lines
 
+-- a world of which this is seen
+abbrev pub seen_as : CopyWorld → List Event → WorldSeen
+seen_as W refusals = record { ring = W.ring; copies = W.copies; refusals = refusals }
+
 -- what is seen of a world behind an event
 abbrev pub behind : WorldSeen → Event → WorldSeen
-behind w e = record { ring = effect w.ring e; refusals = w.refusals ++ refusals_of (e ∷ []) }
+behind w e = seen_as (effect (with_copies w) e) (w.refusals ++ refusals_of (e ∷ []))
 
 -- an event on the line of this number happens where it is enabled
 abbrev pub unless_refused : ℕ → Option Reason → Verdict → Verdict
@@ -66,7 +72,7 @@ unless_refused number (Some reason) later = Illegal number reason
 -- what the line of this number says is judged, and then what stands behind it
 abbrev pub unless_wrong : WorldSeen → ℕ → Result Event Kind → (Event → Verdict) → Verdict
 unless_wrong w number (Err kind) later = Unreadable number (code_of kind)
-unless_wrong w number (Ok e) later = unless_refused number (refusal w.ring e) (later e)
+unless_wrong w number (Ok e) later = unless_refused number (refusal (with_copies w) e) (later e)
 
 -- the lines from this number on, behind these events: each is judged for its text, then for its event, before the next
 abbrev pub judged : WorldSeen → List Event → ℕ → List (List ℕ) → Verdict
@@ -75,7 +81,7 @@ judged w events number (line ∷ lines) = unless_wrong w number (event_on line) 
 
 -- what is seen of the opening
 abbrev pub opened : CreditSpec → List (List ℕ) → WorldSeen
-opened credit names = record { ring = opening credit names; refusals = [] }
+opened credit names = record { ring = opening credit names; copies = []; refusals = [] }
 
 -- the verdict on all lines behind the first, which says this: the opening is that of the credit of its two numbers
 abbrev pub JudgedBehind : Result Opening Kind → List (List ℕ) → Verdict → Type 0

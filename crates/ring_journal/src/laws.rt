@@ -13,25 +13,25 @@ ghost use Rattle.ring_journal.specs.Laws.{IsOfRun};
 ghost use Rattle.ring_script.specs.Vocabulary.{HasNameablePositions};
 ghost use Rattle.ring_journal.specs.Written.{IsWithin};
 
-use ring_rules::{
-    an_idle_ring_is_quiet, each_step_of_repair_leaves_less_to_do, every_number_is_bounded,
-    every_queue_is_right, every_ring_settles, every_state_is_lawful, later_masters_start_first,
-    nothing_falls_through_deaths,
+use ring_copies::{
+    a_ring_settles_beside_copies, every_number_is_bounded_with_copies,
+    every_queue_is_right_with_copies, every_state_is_lawful_with_copies,
+    later_masters_start_first_with_copies, nothing_falls_with_copies,
 };
+use ring_rules::every_number_is_bounded;
 
 /// A journal is legal only where its events are a run of the ring, and then its world is the state that they leave: in
-/// it every law of every run holds, of the ring and of its queue, and from each earlier state on nothing has fallen.
+/// it every law of every run holds, of the ring, its queue and the copies of that, and from each earlier state on nothing
+/// has fallen.
 pub fn a_legal_journal_is_a_run()
     ensures { (bytes : List ℕ) (w : WorldSeen) (events : List Event) → IsVerdictOf bytes (Legal w events) → IsOfRun w events }
 {
-    every_state_is_lawful();
-    nothing_falls_through_deaths();
-    every_queue_is_right();
-    later_masters_start_first();
-    an_idle_ring_is_quiet();
-    each_step_of_repair_leaves_less_to_do();
-    every_ring_settles();
-    every_number_is_bounded();
+    every_state_is_lawful_with_copies();
+    nothing_falls_with_copies();
+    every_queue_is_right_with_copies();
+    later_masters_start_first_with_copies();
+    a_ring_settles_beside_copies();
+    every_number_is_bounded_with_copies();
 }
 
 /// Each text has a verdict, and one alone.

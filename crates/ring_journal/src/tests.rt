@@ -57,6 +57,13 @@ good {'v':2,'credit':[8,4],'members':['a'],'v':1}
 2 71 @|['refuse',100,'stop','a']
 2 71 @|['refuse',28,'depth','a']
 2 71 @|['refuse',28,'get','a','b']
+2 71 @|['sync','a']
+2 71 @|['sync','a','B']
+2 71 @|['syncput','a','b']
+2 71 @|['synctake']
+2 71 @|['syncgain',1]
+2 71 @|['refuse',31,'sync','a']
+2 71 @|['refuse',31,'syncput','a']
 -- The first line: its shape, its version, and then what it says.
 1 72 ['put','a']
 1 72 {'credit':[8,4],'members':['a']}
@@ -86,6 +93,11 @@ good @%|['cast','a','x']%|
 2 29 @|['ack','a',1000000]
 2 06 @|['refuse',12,'stop','b']
 2 44 @|['refuse',12,'stop','a']
+2 06 @|['sync','b','a']
+2 06 @|['syncput','b']
+2 06 @|['synctake','b']
+2 06 @|['syncgain','b']
+2 06 @|['refuse',31,'sync','b','a']
 ";
 
 const ALONE: &[u8] = b"{\"credit\":[8,4],\"members\":[\"a\"],\"v\":1}";
@@ -97,7 +109,8 @@ const CUT: &[u8] =
 const WRITTEN: &[u8] =
     b"{\"credit\":[8,4],\"members\":[\"a\"],\"v\":1}\n[\"publish\",\"a\",\"say \\\"hi\\\" \\\\\"]\n\
 [\"ack\",\"a\",1000000]\n[\"mark\",\"a\",\"b\"]\n[\"refresh\",\"a\",7]\n[\"synced\",\"a\"]\n\
-[\"refuse\",28,\"get\",\"a\"]\n[\"refuse\",29,\"requeue\",\"a\",3]\n[\"refuse\",12,\"cast\",\"a\",\"\"]\n";
+[\"refuse\",28,\"get\",\"a\"]\n[\"refuse\",29,\"requeue\",\"a\",3]\n[\"refuse\",12,\"cast\",\"a\",\"\"]\n\
+[\"sync\",\"a\",\"b\"]\n[\"syncput\",\"a\"]\n[\"synctake\",\"b\"]\n[\"syncgain\",\"a\"]\n[\"refuse\",31,\"sync\",\"a\",\"b\"]\n";
 
 fn told(alloc: Global, journal: &[u8]) -> [u8; 4] {
     match check(alloc, journal) {
@@ -212,6 +225,14 @@ fn writes_each_event_on_a_line(rt: HostRuntime) -> Result<(), Fail> {
                 by: a,
                 body: Body::read(alloc, b"")?,
             },
+        },
+        Event::Sync { by: a, target: b },
+        Event::SyncPut { by: a },
+        Event::SyncTake { by: b },
+        Event::SyncGain { by: a },
+        Event::Refuse {
+            code: 31,
+            inner: Client::Sync { by: a, target: b },
         },
     ];
     let names = [a];

@@ -6,7 +6,7 @@ ghost use Rattle.serde_json.specs.Written.{compact_text, has_float};
 ghost use Rattle.group_view.specs.Change.{AreOpeningNames};
 ghost use Rattle.ring_journal.specs.declared.verdict.Verdict.{Verdict};
 ghost use Rattle.ring_rules.specs.Step.{opening};
-ghost use Rattle.ring_rules.specs.Event.{IsRun};
+ghost use Rattle.ring_copies.specs.Runs.{IsRun, without_copies};
 ghost use Rattle.ring_journal.specs.Text.{opened, IsVerdictOf};
 ghost use Rattle.ring_journal.specs.Played.{played, left_by, IsWritableFurther, IsWritable};
 ghost use Rattle.ring_names.specs.Name.{IsName};
@@ -158,7 +158,7 @@ pub fn write_journal(
 
     // That of a run is legal, with the same events and the world that they leave.
     ensures legal { IfOk result (λ text. (verdict : Verdict) → IsVerdictOf text.items verdict
-        → IsRun (opening credit members.now) events.now
+        → IsRun (without_copies (opening credit members.now)) events.now
         → verdict ≡ Verdict.Legal (left_by (opened credit members.now) events.now) events.now) }
 {
     let mut out = Vec::new(alloc);

@@ -18,7 +18,7 @@ use Rattle.ring_rules.specs.declared.kind.LinkStep.TheVariants as step
 use Rattle.ring_rules.specs.declared.kind.ViewChange.TheVariants as change
 use Rattle.ring_rules.specs.declared.kind.Kind.{Kind as ShownKind}
 use Rattle.ring_rules.specs.declared.kind.Kind.TheVariants as shown
-use Rattle.ring_rules.specs.Kind.{Kind, Says, Steps, Changes, Stops, Reads, Tells}
+use Rattle.ring_rules.specs.Kind.{Kind, Says, Steps, Copying, Changes, Stops, Reads, Tells}
 use Rattle.ring_rules.specs.Refusal.{refuse_if, is_empty}
 use Rattle.ring_rules.specs.View.{right_of}
 use Rattle.ring_rules.specs.Machine.{runs_phase}
@@ -193,10 +193,11 @@ DoesStep step.TakeEnd = TakesEnd
 DoesStep step.Gain = Gains
 DoesStep step.Pick = Picks
 
--- the first condition that fails of what it does by itself, or of its stop
+-- the first condition that fails of what it does by itself, of a step on a copy, or of its stop
 abbrev pub alone_refused : Kind → Keeps → Shown → Option Reason
 alone_refused (Says s) keeps a = up_refused a.held (saying_refused s a.held keeps)
 alone_refused (Steps s) keeps a = step_refused s a
+alone_refused (Copying s) keeps a = up_refused a.held (Some reason.Waiting)
 alone_refused Stops keeps a = stop_refused a
 alone_refused k keeps a = None
 

@@ -5,11 +5,12 @@ use Rattle.queue_core.specs.declared.message.Message.{Message}
 use Rattle.queue_mirror.specs.Mirror.{apply_ops}
 use Rattle.confirm_book.specs.Book.{without_room, came_round}
 use Rattle.ring_names.specs.declared.reason.Reason.{Reason}
+use Rattle.ring_names.specs.declared.reason.Reason.TheVariants as reason
 use Rattle.lamport_merge.specs.Merge.{Entry, Log}
 use Rattle.ring_rules.specs.declared.event.Event.{Event}
 use Rattle.ring_rules.specs.declared.kind.LinkStep.TheVariants as step
 use Rattle.ring_rules.specs.declared.kind.ViewChange.TheVariants as change
-use Rattle.ring_rules.specs.Kind.{Kind, Says, Steps, Changes, Stops, Reads, Tells, kind_of}
+use Rattle.ring_rules.specs.Kind.{Kind, Says, Steps, Copying, Changes, Stops, Reads, Tells, kind_of}
 use Rattle.ring_rules.specs.Machine.{World, member_at, link_at}
 use Rattle.ring_rules.specs.Step.{size}
 use Rattle.ring_rules.specs.Event.{version_refusal, is_told, by_of, event_of}
@@ -54,6 +55,7 @@ keeps_taken h p k = record k {
 -- why a member doesn't do what a client asks of this kind, as far as it tells that by itself
 abbrev pub refused_by_itself : Kind → Held → Keeps → Option Reason
 refused_by_itself (Says s) h k = up_refused h (saying_refused s h k)
+refused_by_itself (Copying s) h k = up_refused h (Some reason.Waiting)
 refused_by_itself Stops h k = active_refused h None
 refused_by_itself (Changes (change.Admit name)) h k = up_refused h None
 refused_by_itself kind h k = None
@@ -87,6 +89,7 @@ Did Stops t d a b =
     (stamp : ℕ) × (active_refused a.held None ≡ None) × (t ≤ stamp) × (b ≡ record a { held = stopped_held a.held })
     × (d.there ≡ at_some a.out [] (λ s. (s, push (record { stamp = stamp; it = None })) ∷ [])) × (d.back ≡ [])
 Did (Tells code inner) t d a b = (is_told code (refused_by_itself (kind_of (event_of inner)) a.held a.keeps) ≡ true) × (b ≡ a) × NoActs d
+Did (Copying s) t d a b = ⊥
 Did (Changes c) t d a b = ⊥
 Did (Reads version) t d a b = ⊥
 

@@ -18,7 +18,7 @@ use crate::node::{Node, be_alone, gain, pick, put, stop, take_end};
 use crate::parties::Parties;
 use crate::party::Party;
 use crate::queue::{say, take_packet};
-use crate::refusing::{look_refusal, own_refusal, stop_refusal, unknown};
+use crate::refusing::{look_refusal, no_copy, own_refusal, stop_refusal, unknown};
 use activity::Load;
 use gm_member::Ask;
 use group_view::Request;
@@ -172,6 +172,7 @@ impl Parties {
                 self.act_alone(i, event)?;
                 Ok(None)
             }
+            Kind::Copies(_) => Err(Refused::NotEnabled(no_copy(&self.members[i].node))),
             Kind::Changes(change) => self.act_change(credit, i, change),
             Kind::Stops => {
                 self.act_stop(i)?;

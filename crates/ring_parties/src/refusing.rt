@@ -78,6 +78,17 @@ pub(crate) fn unknown(node: &Node) -> Reason
     }
 }
 
+/// Why a member does no step on a copy: a ring by itself has none, so one that is up waits for them.
+pub(crate) fn no_copy(node: &Node) -> Reason
+    requires { (shown_of node.now).held.asks ≡ false }
+    ensures { up_refused (shown_of node.now).held (Some Reason.Waiting) ≡ Some result }
+{
+    match up_refusal(node) {
+        Some(reason) => reason,
+        None => Reason::Waiting,
+    }
+}
+
 /// Why a member admits nobody under a name, where this is the newest view.
 pub(crate) fn admit_refusal(view: &View, node: &Node, name: &Name) -> Option<Reason>
     requires { (shown_of node.now).held.asks ≡ false }
@@ -101,6 +112,7 @@ fn client_refusal(view: &View, party: &Party, asked: &Client) -> Option<Reason>
     ensures { result ≡ client_refused view.now (keeps_in party.now) asked.now (shown_in party.now) }
 {
     match asked {
+        Client::Sync { .. } => Some(no_copy(&party.node)),
         Client::Stop { by: _ } => stop_refusal(&party.node),
         Client::Admit { by: _, name } => admit_refusal(view, &party.node, name),
         Client::Cast { .. } => up_refusal(&party.node),
@@ -249,6 +261,7 @@ pub(crate) fn own_refusal(view: &View, party: &Party, event: &Event) -> Option<R
     match event.kind() {
         Kind::Says => say_refusal(party, event),
         Kind::Links(step) => own_step_refusal(&party.node, step),
+        Kind::Copies(_) => Some(no_copy(&party.node)),
         Kind::Changes(_) => None,
         Kind::Stops => stop_refusal(&party.node),
         Kind::Reads(version) => look_refusal(&party.node, view.version, version),

@@ -1,5 +1,5 @@
-//! A ring whose master serves its queue, while one stops and two join, as it is told.
-use crate::{report, summary};
+//! A ring whose master serves its queue, while one stops and two join, as it is told; and a refusal by itself.
+use crate::{push_refusals, report, summary};
 use ring_names::{Body, CreditSpec, Name, Position};
 use ring_rules::{Client, Event};
 use ring_world::{World, are_opening_names};
@@ -116,5 +116,23 @@ fn tells_a_served_queue(rt: HostRuntime) -> Result<(), Fail> {
     assert_eq!(rt; text.as_slice(), REPORT.as_bytes());
     let text = summary(alloc, &world, 7)?;
     assert_eq!(rt; text.as_slice(), SUMMARY.as_bytes());
+    Ok(())
+}
+
+/// A refusal is told in the words of a step file, of the member of which it was asked.
+#[test]
+fn tells_a_refused_copy(rt: HostRuntime) -> Result<(), Fail> {
+    let alloc = rt.alloc();
+    let by = name("a")?;
+    let refusal = Event::Refuse {
+        code: 31,
+        inner: Client::Sync {
+            by,
+            target: name("n")?,
+        },
+    };
+    let mut text = Vec::new(alloc);
+    push_refusals(alloc, &mut text, &[&refusal], &by)?;
+    assert_eq!(rt; text.as_slice(), b"refused 31 sync a n\n".as_slice());
     Ok(())
 }

@@ -22,11 +22,12 @@ use Rattle.ring_rules.specs.View.{is_live, left_of, right_of}
 use Rattle.ring_rules.specs.Machine.{Phase, Waiting, Up, Stopped, Member, Sending, Moved, Halted, Link, World, row_at, numbers_at, member_at, link_at, view_in, newest, is_waiting, oldest}
 use Rattle.ring_rules.specs.Step.{size, publish_at, put_on, gain_on, take_from, begin_from, current_is, leave_link, stop_at, end_out, with_view, come_to, look_at, open_to, with_link, ended}
 pub use Rattle.ring_rules.specs.declared.event.Event.{Event}
-pub use Rattle.ring_rules.specs.declared.event.Event.TheVariants.{Cast, Publish, Get, Pop, Ack, Requeue, Depth, Start, Put, Take, TakeEnd, Gain, Stop, Mark, Refresh, Admit, Pick, Erase, Synced, Refuse}
+pub use Rattle.ring_rules.specs.declared.event.Event.TheVariants.{Cast, Publish, Get, Pop, Ack, Requeue, Depth, Start, Sync, Put, Take, TakeEnd, Gain, Stop, Mark, Refresh, Admit, Pick, Erase, Synced, SyncPut, SyncTake, SyncGain, Refuse}
 use Rattle.ring_rules.specs.declared.event.Client.{Client}
 use Rattle.ring_rules.specs.declared.event.Client.TheVariants as client
-pub use Rattle.ring_rules.specs.Kind.{QueueSaying, Publishes, Does, Marks, Saying, Own, OfQueue, Kind, Says, Steps, Changes, Stops, Reads, Tells, kind_of}
+pub use Rattle.ring_rules.specs.Kind.{QueueSaying, Publishes, Does, Marks, Saying, Own, OfQueue, Kind, Says, Steps, Copying, Changes, Stops, Reads, Tells, kind_of}
 use Rattle.ring_rules.specs.declared.kind.Asking.TheVariants as asking
+use Rattle.ring_rules.specs.declared.kind.CopyStep.TheVariants as copying
 use Rattle.ring_rules.specs.declared.kind.LinkStep.TheVariants as step
 use Rattle.ring_rules.specs.declared.kind.ViewChange.TheVariants as change
 
@@ -267,6 +268,7 @@ event_of (client.Get by) = Get by
 event_of (client.Pop by) = Pop by
 event_of (client.Ack by at) = Ack by at
 event_of (client.Requeue by at) = Requeue by at
+event_of (client.Sync by target) = Sync by target
 event_of (client.Stop by) = Stop by
 event_of (client.Admit by name) = Admit by name
 
@@ -278,6 +280,7 @@ asked_of (client.Get by) = by
 asked_of (client.Pop by) = by
 asked_of (client.Ack by at) = by
 asked_of (client.Requeue by at) = by
+asked_of (client.Sync by target) = by
 asked_of (client.Stop by) = by
 asked_of (client.Admit by name) = by
 
@@ -291,6 +294,7 @@ by_of (Ack by at) = by
 by_of (Requeue by at) = by
 by_of (Depth by) = by
 by_of (Start by) = by
+by_of (Sync by target) = by
 by_of (Put by) = by
 by_of (Take by) = by
 by_of (TakeEnd by) = by
@@ -302,6 +306,9 @@ by_of (Admit by name) = by
 by_of (Pick by) = by
 by_of (Erase by origin) = by
 by_of (Synced by) = by
+by_of (SyncPut by) = by
+by_of (SyncTake by) = by
+by_of (SyncGain by) = by
 by_of (Refuse code inner) = asked_of inner
 
 -- whether a client asks for what a master says of its queue; else the master does it by itself
@@ -315,6 +322,7 @@ abbrev pub is_asked_kind : Kind → Bool
 is_asked_kind (Says (Own body)) = true
 is_asked_kind (Says (OfQueue q)) = is_asked_of_master q
 is_asked_kind Stops = true
+is_asked_kind (Copying (copying.Open target)) = true
 is_asked_kind (Changes (change.Admit name)) = true
 is_asked_kind (Tells code inner) = true
 is_asked_kind k = false
@@ -349,7 +357,8 @@ abbrev pub phase_refusal : Bool → World → ℕ → Option Reason → Option R
 phase_refusal true w x later = up_refusal w x later
 phase_refusal false w x later = running_refusal w x later
 
--- these others, of an event of this kind of member x; a refusal has none
+-- these others, of an event of this kind of member x; a refusal has none. A ring by itself has no copies: a step on one waits
+-- for them, and no client is told so.
 abbrev pub further_as : World → ℕ → Kind → Option Reason
 further_as w x (Says s) = saying_refusal w x s
 further_as w x (Steps step.Put) = on_link (member_at w x).out reason.NoOutLink (put_refusal w x)
@@ -357,6 +366,7 @@ further_as w x (Steps step.Take) = on_link (member_at w x).current reason.NoCurr
 further_as w x (Steps step.TakeEnd) = on_link (member_at w x).current reason.NoCurrentLink (end_refusal w)
 further_as w x (Steps step.Gain) = on_link (member_at w x).out reason.NoOutLink (gain_refusal w)
 further_as w x (Steps step.Pick) = or_else (refuse_if (is_some (member_at w x).current) reason.HasCurrentLink) (pick_refusal w x)
+further_as w x (Copying s) = Some reason.Waiting
 further_as w x (Changes (change.Mark dead)) = of_member (id_of w dead) (mark_refusal w x)
 further_as w x (Changes (change.Erase origin)) = of_member (id_of w origin) (erase_refusal w x)
 further_as w x (Changes (change.Admit name)) = admit_refusal w name
@@ -420,6 +430,7 @@ done_as w x (Steps step.Take) = at_found (member_at w x).current w (taken_by (me
 done_as w x (Steps step.TakeEnd) = at_found (member_at w x).current w (leave_link w x)
 done_as w x (Steps step.Gain) = at_found (member_at w x).out w (gain_on w)
 done_as w x (Steps step.Pick) = at_found (at_door w x) w (λ s. current_is w x (Some s))
+done_as w x (Copying s) = w
 done_as w x (Changes (change.Mark dead)) = at_found (id_of w dead) w (λ d. refreshed (with_view w (marked (view_in w (newest w)) d)) x (newest w + 1))
 done_as w x (Changes (change.Erase origin)) = at_found (id_of w origin) w (λ p. refreshed (with_view w (erased_view w p)) x (newest w + 1))
 done_as w x (Changes (change.Admit name)) = refreshed (come_to w x name) x (newest w + 1)

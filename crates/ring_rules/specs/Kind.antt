@@ -7,6 +7,8 @@ use Rattle.ring_rules.specs.declared.event.Event.{Event}
 use Rattle.ring_rules.specs.declared.event.Event.TheVariants as event
 use Rattle.ring_rules.specs.declared.kind.Asking.{Asking}
 use Rattle.ring_rules.specs.declared.kind.Asking.TheVariants as asking
+use Rattle.ring_rules.specs.declared.kind.CopyStep.{CopyStep}
+use Rattle.ring_rules.specs.declared.kind.CopyStep.TheVariants as copying
 use Rattle.ring_rules.specs.declared.kind.LinkStep.{LinkStep}
 use Rattle.ring_rules.specs.declared.kind.LinkStep.TheVariants as step
 use Rattle.ring_rules.specs.declared.kind.ViewChange.{ViewChange}
@@ -26,11 +28,12 @@ pub data Saying : Type 0 where
   Own : List ℕ → Saying
   OfQueue : QueueSaying → Saying
 
--- it says something, does a step on its links, has the view changed, stops, reads the view of a version, or tells a client a
+-- it says something, does a step on its links or on a copy, has the view changed, stops, reads the view of a version, or tells a client a
 -- refusal
 pub data Kind : Type 0 where
   Says : Saying → Kind
   Steps : LinkStep → Kind
+  Copying : CopyStep → Kind
   Changes : ViewChange → Kind
   Stops : Kind
   Reads : ℕ → Kind
@@ -46,6 +49,7 @@ kind_of (event.Ack by at) = Says (OfQueue (Does (asking.Ack at)))
 kind_of (event.Requeue by at) = Says (OfQueue (Does (asking.Requeue at)))
 kind_of (event.Depth by) = Says (OfQueue (Does asking.Depth))
 kind_of (event.Start by) = Says (OfQueue (Does asking.Start))
+kind_of (event.Sync by target) = Copying (copying.Open target)
 kind_of (event.Put by) = Steps step.Put
 kind_of (event.Take by) = Steps step.Take
 kind_of (event.TakeEnd by) = Steps step.TakeEnd
@@ -55,6 +59,9 @@ kind_of (event.Mark by dead) = Changes (change.Mark dead)
 kind_of (event.Erase by origin) = Changes (change.Erase origin)
 kind_of (event.Admit by name) = Changes (change.Admit name)
 kind_of (event.Synced by) = Changes change.Register
+kind_of (event.SyncPut by) = Copying copying.Put
+kind_of (event.SyncTake by) = Copying copying.Take
+kind_of (event.SyncGain by) = Copying copying.Gain
 kind_of (event.Stop by) = Stops
 kind_of (event.Refresh by version) = Reads version
 kind_of (event.Refuse code inner) = Tells code inner
@@ -63,6 +70,7 @@ kind_of (event.Refuse code inner) = Tells code inner
 abbrev pub shown_kind : Kind → ShownKind
 shown_kind (Says s) = shown.Says
 shown_kind (Steps s) = shown.Links s
+shown_kind (Copying s) = shown.Copies s
 shown_kind (Changes c) = shown.Changes c
 shown_kind Stops = shown.Stops
 shown_kind (Reads version) = shown.Reads version

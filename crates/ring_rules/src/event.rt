@@ -23,6 +23,8 @@ pub enum Event {
     Depth { by: Name },
     /// A new master begins, before it does anything else to its queue.
     Start { by: Name },
+    /// The master marks a copy of its queue to another member, and opens it: `rabbit_mirror_queue_master:sync_mirrors`.
+    Sync { by: Name, target: Name },
     /// The member puts a packet on the link that it sends on.
     Put { by: Name },
     /// The member takes the oldest packet from the link that it takes from.
@@ -46,6 +48,12 @@ pub enum Event {
     Erase { by: Name, origin: Name },
     /// The member has all that its queue's mirror missed, and is registered as synchronised.
     Synced { by: Name },
+    /// The master puts the next load on its copy, as `rabbit_mirror_queue_sync:master_go`.
+    SyncPut { by: Name },
+    /// The mirror takes the oldest load from the oldest copy that is made to it, as `rabbit_mirror_queue_sync:slave`.
+    SyncTake { by: Name },
+    /// The master gains the oldest grant under way on its copy as credit.
+    SyncGain { by: Name },
     /// What a client asked of a member can't be done, and is told with the number of its refusal.
     Refuse { code: u32, inner: Client },
 }
@@ -65,6 +73,8 @@ pub enum Client {
     Ack { by: Name, at: Position },
     /// To hand a message back that was handed out.
     Requeue { by: Name, at: Position },
+    /// To copy the queue to another member.
+    Sync { by: Name, target: Name },
     /// To stop.
     Stop { by: Name },
     /// To admit a member of a new name.
@@ -86,6 +96,7 @@ impl Client {
             Client::Pop { by } => by,
             Client::Ack { by, at: _ } => by,
             Client::Requeue { by, at: _ } => by,
+            Client::Sync { by, target: _ } => by,
             Client::Stop { by } => by,
             Client::Admit { by, name: _ } => by,
         }
@@ -108,6 +119,10 @@ impl Client {
             Client::Pop { by } => Ok(Event::Pop { by: *by }),
             Client::Ack { by, at } => Ok(Event::Ack { by: *by, at: *at }),
             Client::Requeue { by, at } => Ok(Event::Requeue { by: *by, at: *at }),
+            Client::Sync { by, target } => Ok(Event::Sync {
+                by: *by,
+                target: *target,
+            }),
             Client::Stop { by } => Ok(Event::Stop { by: *by }),
             Client::Admit { by, name } => Ok(Event::Admit {
                 by: *by,
@@ -133,6 +148,10 @@ impl Client {
             Client::Pop { by } => Ok(Client::Pop { by: *by }),
             Client::Ack { by, at } => Ok(Client::Ack { by: *by, at: *at }),
             Client::Requeue { by, at } => Ok(Client::Requeue { by: *by, at: *at }),
+            Client::Sync { by, target } => Ok(Client::Sync {
+                by: *by,
+                target: *target,
+            }),
             Client::Stop { by } => Ok(Client::Stop { by: *by }),
             Client::Admit { by, name } => Ok(Client::Admit {
                 by: *by,
@@ -156,6 +175,7 @@ impl Event {
             Event::Requeue { by, at: _ } => by,
             Event::Depth { by } => by,
             Event::Start { by } => by,
+            Event::Sync { by, target: _ } => by,
             Event::Put { by } => by,
             Event::Take { by } => by,
             Event::TakeEnd { by } => by,
@@ -167,6 +187,9 @@ impl Event {
             Event::Pick { by } => by,
             Event::Erase { by, origin: _ } => by,
             Event::Synced { by } => by,
+            Event::SyncPut { by } => by,
+            Event::SyncTake { by } => by,
+            Event::SyncGain { by } => by,
             Event::Refuse { code: _, inner } => inner.by(),
         }
     }
@@ -197,6 +220,10 @@ impl Event {
             Event::Requeue { by, at } => Ok(Event::Requeue { by: *by, at: *at }),
             Event::Depth { by } => Ok(Event::Depth { by: *by }),
             Event::Start { by } => Ok(Event::Start { by: *by }),
+            Event::Sync { by, target } => Ok(Event::Sync {
+                by: *by,
+                target: *target,
+            }),
             Event::Put { by } => Ok(Event::Put { by: *by }),
             Event::Take { by } => Ok(Event::Take { by: *by }),
             Event::TakeEnd { by } => Ok(Event::TakeEnd { by: *by }),
@@ -220,6 +247,9 @@ impl Event {
                 origin: *origin,
             }),
             Event::Synced { by } => Ok(Event::Synced { by: *by }),
+            Event::SyncPut { by } => Ok(Event::SyncPut { by: *by }),
+            Event::SyncTake { by } => Ok(Event::SyncTake { by: *by }),
+            Event::SyncGain { by } => Ok(Event::SyncGain { by: *by }),
             Event::Refuse { code, inner } => Ok(Event::Refuse {
                 code: *code,
                 inner: inner.copy()?,

@@ -53,6 +53,19 @@ pub enum ViewChange {
     Register,
 }
 
+/// What a member does on a copy of the queue.
+#[derive(Clone, Copy, PartialEq, Eq, Debug)]
+pub enum CopyStep {
+    /// As master it opens one to the member of a name.
+    Open(Name),
+    /// It puts the next load.
+    Put,
+    /// As mirror it takes the oldest load.
+    Take,
+    /// As master it gains credit.
+    Gain,
+}
+
 /// What an event is, whoever does it.
 #[derive(Clone, Copy, PartialEq, Eq, Debug)]
 pub enum Kind {
@@ -60,6 +73,8 @@ pub enum Kind {
     Says,
     /// It does a step on its links.
     Links(LinkStep),
+    /// It does a step on a copy.
+    Copies(CopyStep),
     /// It has the view changed.
     Changes(ViewChange),
     /// It stops.
@@ -129,6 +144,10 @@ impl Event {
             Event::TakeEnd { .. } => Kind::Links(LinkStep::TakeEnd),
             Event::Gain { .. } => Kind::Links(LinkStep::Gain),
             Event::Pick { .. } => Kind::Links(LinkStep::Pick),
+            Event::Sync { target, .. } => Kind::Copies(CopyStep::Open(*target)),
+            Event::SyncPut { .. } => Kind::Copies(CopyStep::Put),
+            Event::SyncTake { .. } => Kind::Copies(CopyStep::Take),
+            Event::SyncGain { .. } => Kind::Copies(CopyStep::Gain),
             Event::Mark { dead, .. } => Kind::Changes(ViewChange::Mark(*dead)),
             Event::Erase { origin, .. } => Kind::Changes(ViewChange::Erase(*origin)),
             Event::Admit { name, .. } => Kind::Changes(ViewChange::Admit(*name)),

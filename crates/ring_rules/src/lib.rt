@@ -58,8 +58,8 @@
 //! lacks nothing its member is registered as synchronised (`Synced`). Only such a member is elected. A new master starts
 //! before anything else (`Start`): what was handed out is ready again. `every_queue_is_right` is the law of it.
 //!
-//! Not built: no copy of the queue is sent to a mirror. The packets here have numbers alone, and messages are read from
-//! their publisher's log; those of gm_member carry the messages.
+//! Copies of the queue to mirrors stand in ring_copies: here each step on one is refused. The packets here have numbers
+//! alone, and messages are read from their publisher's log; those of gm_member carry the messages.
 #![tactic(auto)]
 
 mod event;
@@ -71,7 +71,7 @@ mod refused;
 mod shown;
 
 pub use event::{Client, Event};
-pub use kind::{Asking, Kind, LinkStep, ViewChange};
+pub use kind::{Asking, CopyStep, Kind, LinkStep, ViewChange};
 pub use laws::{
     an_idle_ring_is_quiet, each_step_of_repair_leaves_less_to_do, every_number_is_bounded,
     every_queue_is_right, every_ring_settles, every_state_is_lawful, later_masters_start_first,

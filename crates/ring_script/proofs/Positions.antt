@@ -12,9 +12,9 @@ use Rattle.ring_script.specs.declared.vocabulary.Word.{Word}
 use Rattle.ring_script.specs.declared.vocabulary.Word.TheVariants as word
 use Rattle.ring_script.specs.Words.{words_of, first_word, behind_word}
 use Rattle.ring_script.specs.Line.{second_in, head_in, name_fault, number_fault}
-use Rattle.ring_script.specs.Vocabulary.{word_of, shape_of, most_position, asked_phrase, IsFitPosition, HasNameablePositions}
+use Rattle.ring_script.specs.Vocabulary.{shape_of, most_position, asked_phrase, IsFitPosition, HasNameablePositions}
 use Rattle.ring_script.specs.Phrase.{refused_name_fault, phrase_fault, further_in}
-use Rattle.ring_script.specs.Steps.{asked_word, event_fault, client_fault, refuse_fault, step_fault, step_grammar, event_by, client_by, refusal_in, event_of}
+use Rattle.ring_script.specs.Steps.{step_word, asked_word, event_fault, client_fault, refuse_fault, step_fault, step_grammar, event_by, client_by, refusal_in, event_of}
 use Rattle.ring_script.specs.Reading.{statements_of, AreStepsOf, HaveNameablePositions}
 use Rattle.ring_script.proofs.Numbers.{number_fits}
 use Rattle.ring_script.proofs.Phrases.{two_right}
@@ -55,10 +55,10 @@ by_words rest (code ∷ asked ∷ words) is e =
     let behind : List ℕ = behind_word (behind_word rest) in
     subst (λ o. IsFitPosition (asked_phrase (client_by o behind)).further) (ap (λ ws. asked_word (get_or ws 1 [])) (sym is)) (by_asked code (asked_word asked) behind e)
 
-by_test : (text rest : List ℕ) (b : Bool) → (if b then refuse_fault rest (words_of rest) else event_fault (word_of text) rest) ≡ None
-    → HasNameablePositions (if b then refusal_in rest else event_by (word_of text) rest)
+by_test : (text rest : List ℕ) (b : Bool) → (if b then refuse_fault rest (words_of rest) else event_fault (step_word text) rest) ≡ None
+    → HasNameablePositions (if b then refusal_in rest else event_by (step_word text) rest)
 by_test text rest true e = by_words rest (words_of rest) refl e
-by_test text rest false e = by_word (word_of text) rest e
+by_test text rest false e = by_word (step_word text) rest e
 
 step_names : (text rest : List ℕ) → step_fault text rest ≡ None → HasNameablePositions (event_of text rest)
 step_names text rest e = by_test text rest (bytes_eq text (codes "refuse")) e

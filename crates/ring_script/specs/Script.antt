@@ -1,5 +1,5 @@
 -- What a line of a script says behind the opening ones, and what is wrong with it.
-use Rattle.std.specs.Prelude.{ℕ, if◌then◌else◌, Option, Some, None, unwrap_or, option_map, List, [], ◌∷◌, codes, bytes_eq}
+use Rattle.std.specs.Prelude.{ℕ, if◌then◌else◌, Option, Some, None, unwrap_or, option_and_then, List, [], ◌∷◌, codes, bytes_eq}
 use Rattle.std.specs.List.{flat_map}
 use Rattle.ring_rules.specs.declared.event.Client.{Client}
 use Rattle.ring_rules.specs.declared.event.Client.TheVariants as client
@@ -42,20 +42,21 @@ command_fault known (Some Go) rest = one_word (number_fault most_turns) (words_o
 command_fault known (Some Settle) rest = no_word (words_of rest)
 command_fault known None rest = Some UnknownCommand
 
--- the command that has a member do what a client asks
-abbrev pub command_asking : Client → Command
-command_asking (client.Cast by body) = command.Cast by body
-command_asking (client.Publish by body) = command.Publish by body
-command_asking (client.Get by) = command.Get by
-command_asking (client.Pop by) = command.Pop by
-command_asking (client.Ack by at) = command.Ack by at
-command_asking (client.Requeue by at) = command.Requeue by at
-command_asking (client.Admit by name) = command.Join by name
-command_asking (client.Stop by) = command.Kill by
+-- the command that has a member do what a client asks, where scripts have one; they have none that opens a copy
+abbrev pub command_asking : Client → Option Command
+command_asking (client.Cast by body) = Some (command.Cast by body)
+command_asking (client.Publish by body) = Some (command.Publish by body)
+command_asking (client.Get by) = Some (command.Get by)
+command_asking (client.Pop by) = Some (command.Pop by)
+command_asking (client.Ack by at) = Some (command.Ack by at)
+command_asking (client.Requeue by at) = Some (command.Requeue by at)
+command_asking (client.Sync by target) = None
+command_asking (client.Admit by name) = Some (command.Join by name)
+command_asking (client.Stop by) = Some (command.Kill by)
 
 -- the command that a line gives, by its keyword and its rest
 abbrev pub command_by : Option Keyword → List ℕ → Command
-command_by (Some (Asks w)) rest = unwrap_or (option_map command_asking (client_said (phrase_in w rest))) command.Settle
+command_by (Some (Asks w)) rest = unwrap_or (option_and_then command_asking (client_said (phrase_in w rest))) command.Settle
 command_by (Some Go) rest = command.Go (unwrap_or (number_of most_turns (operand_in rest)) 0)
 command_by (Some Settle) rest = command.Settle
 command_by None rest = command.Settle

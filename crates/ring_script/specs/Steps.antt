@@ -15,7 +15,19 @@ use Rattle.ring_script.specs.Vocabulary.{word_of, shape_of, event_said, client_s
 pub use Rattle.ring_script.specs.Vocabulary.{most_code}
 use Rattle.ring_script.specs.Phrase.{refused_name_fault, phrase_fault, phrase_in}
 
--- step files have a word for an event, and behind `refuse` too where clients ask for it
+-- step files have the words of what members do; they don't copy a queue yet
+abbrev pub is_step : Word → Bool
+is_step word.Sync = false
+is_step word.SyncPut = false
+is_step word.SyncTake = false
+is_step word.SyncGain = false
+is_step w = true
+
+-- the word that a text is, if step files have it
+abbrev pub step_word : List ℕ → Option Word
+step_word text = option_and_then (λ w. if is_step w then Some w else None) (word_of text)
+
+-- behind `refuse` they have those that clients ask for
 abbrev pub is_asked_step : Word → Bool
 is_asked_step word.Cast = true
 is_asked_step word.Publish = true
@@ -49,7 +61,7 @@ refuse_fault rest (code ∷ asked ∷ words) = client_fault code (asked_word ask
 
 -- what is wrong with a line, by its first word and its rest: `refuse`, or the word of an event
 abbrev pub step_fault : List ℕ → List ℕ → Option Kind
-step_fault text rest = if bytes_eq text (codes "refuse") then refuse_fault rest (words_of rest) else event_fault (word_of text) rest
+step_fault text rest = if bytes_eq text (codes "refuse") then refuse_fault rest (words_of rest) else event_fault (step_word text) rest
 
 -- no line asks whether a name is known, and none makes one known
 abbrev pub step_grammar : Grammar
@@ -73,4 +85,4 @@ refusal_in rest = refused_by (operand_in rest) (asked_word (second_in rest)) (be
 
 -- the event that a line tells, by its first word and its rest
 abbrev pub event_of : List ℕ → List ℕ → Event
-event_of text rest = if bytes_eq text (codes "refuse") then refusal_in rest else event_by (word_of text) rest
+event_of text rest = if bytes_eq text (codes "refuse") then refusal_in rest else event_by (step_word text) rest

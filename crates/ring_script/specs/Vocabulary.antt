@@ -25,6 +25,7 @@ text_of word.Ack = codes "ack"
 text_of word.Requeue = codes "requeue"
 text_of word.Depth = codes "depth"
 text_of word.Start = codes "start"
+text_of word.Sync = codes "sync"
 text_of word.Put = codes "put"
 text_of word.Take = codes "take"
 text_of word.TakeEnd = codes "takeend"
@@ -36,12 +37,15 @@ text_of word.Admit = codes "admit"
 text_of word.Pick = codes "pick"
 text_of word.Erase = codes "erase"
 text_of word.Synced = codes "synced"
+text_of word.SyncPut = codes "syncput"
+text_of word.SyncTake = codes "synctake"
+text_of word.SyncGain = codes "syncgain"
 
 -- all of them
 abbrev pub all_words : List Word
 all_words =
-    word.Cast ∷ word.Publish ∷ word.Get ∷ word.Pop ∷ word.Ack ∷ word.Requeue ∷ word.Depth ∷ word.Start ∷ word.Put ∷ word.Take ∷ word.TakeEnd ∷ word.Gain
-    ∷ word.Stop ∷ word.Mark ∷ word.Refresh ∷ word.Admit ∷ word.Pick ∷ word.Erase ∷ word.Synced ∷ []
+    word.Cast ∷ word.Publish ∷ word.Get ∷ word.Pop ∷ word.Ack ∷ word.Requeue ∷ word.Depth ∷ word.Start ∷ word.Sync ∷ word.Put ∷ word.Take ∷ word.TakeEnd
+    ∷ word.Gain ∷ word.Stop ∷ word.Mark ∷ word.Refresh ∷ word.Admit ∷ word.Pick ∷ word.Erase ∷ word.Synced ∷ word.SyncPut ∷ word.SyncTake ∷ word.SyncGain ∷ []
 
 -- the word that is written so
 abbrev pub word_of : List ℕ → Option Word
@@ -53,6 +57,7 @@ shape_of word.Cast = shape.Body
 shape_of word.Publish = shape.Body
 shape_of word.Ack = shape.Position
 shape_of word.Requeue = shape.Position
+shape_of word.Sync = shape.Name
 shape_of word.Mark = shape.Name
 shape_of word.Erase = shape.Name
 shape_of word.Admit = shape.Newcomer
@@ -85,6 +90,7 @@ asked_phrase (client.Get by) = phrase word.Get by further.Nothing
 asked_phrase (client.Pop by) = phrase word.Pop by further.Nothing
 asked_phrase (client.Ack by at) = phrase word.Ack by (further.Position at)
 asked_phrase (client.Requeue by at) = phrase word.Requeue by (further.Position at)
+asked_phrase (client.Sync by target) = phrase word.Sync by (further.Name target)
 asked_phrase (client.Stop by) = phrase word.Stop by further.Nothing
 asked_phrase (client.Admit by name) = phrase word.Admit by (further.Name name)
 
@@ -98,6 +104,7 @@ phrase_of (event.Ack by at) = phrase word.Ack by (further.Position at)
 phrase_of (event.Requeue by at) = phrase word.Requeue by (further.Position at)
 phrase_of (event.Depth by) = phrase word.Depth by further.Nothing
 phrase_of (event.Start by) = phrase word.Start by further.Nothing
+phrase_of (event.Sync by target) = phrase word.Sync by (further.Name target)
 phrase_of (event.Put by) = phrase word.Put by further.Nothing
 phrase_of (event.Take by) = phrase word.Take by further.Nothing
 phrase_of (event.TakeEnd by) = phrase word.TakeEnd by further.Nothing
@@ -109,6 +116,9 @@ phrase_of (event.Admit by name) = phrase word.Admit by (further.Name name)
 phrase_of (event.Pick by) = phrase word.Pick by further.Nothing
 phrase_of (event.Erase by origin) = phrase word.Erase by (further.Name origin)
 phrase_of (event.Synced by) = phrase word.Synced by further.Nothing
+phrase_of (event.SyncPut by) = phrase word.SyncPut by further.Nothing
+phrase_of (event.SyncTake by) = phrase word.SyncTake by further.Nothing
+phrase_of (event.SyncGain by) = phrase word.SyncGain by further.Nothing
 phrase_of (event.Refuse code inner) = asked_phrase inner
 
 -- the event of a word and a name alone
@@ -124,6 +134,9 @@ event_alone word.Gain by = Some (event.Gain by)
 event_alone word.Stop by = Some (event.Stop by)
 event_alone word.Pick by = Some (event.Pick by)
 event_alone word.Synced by = Some (event.Synced by)
+event_alone word.SyncPut by = Some (event.SyncPut by)
+event_alone word.SyncTake by = Some (event.SyncTake by)
+event_alone word.SyncGain by = Some (event.SyncGain by)
 event_alone w by = None
 
 -- with a body
@@ -134,6 +147,7 @@ event_of_body w by body = None
 
 -- with a further name
 abbrev pub event_of_name : Word → List ℕ → List ℕ → Option Event
+event_of_name word.Sync by target = Some (event.Sync by target)
 event_of_name word.Mark by dead = Some (event.Mark by dead)
 event_of_name word.Erase by origin = Some (event.Erase by origin)
 event_of_name word.Admit by name = Some (event.Admit by name)
@@ -170,6 +184,7 @@ asked_by (event.Get by) = Some (client.Get by)
 asked_by (event.Pop by) = Some (client.Pop by)
 asked_by (event.Ack by at) = Some (client.Ack by at)
 asked_by (event.Requeue by at) = Some (client.Requeue by at)
+asked_by (event.Sync by target) = Some (client.Sync by target)
 asked_by (event.Stop by) = Some (client.Stop by)
 asked_by (event.Admit by name) = Some (client.Admit by name)
 asked_by e = None

@@ -85,25 +85,24 @@ fn read_asked(alloc: Global, known: &[Name], word: Word, rest: Words) -> Result<
     ensures asked { IfOk result (λ command. command ≡ command_by (Some (Keyword.Asks word)) (left_in rest.entry)) }
 {
     let phrase = read_phrase(alloc, Names::Known(known), word, rest)?;
-    match phrase.client() {
-        Some(client) => Ok(command_for(client)),
-        None => Ok(Command::Settle),
-    }
+    let asked = phrase.client().and_then(command_for);
+    Ok(asked.unwrap_or(Command::Settle))
 }
 
-/// The command that has a member do what a client asks.
-fn command_for(client: Client) -> Command
+/// The command that has a member do what a client asks, where scripts have one: they have none that opens a copy.
+fn command_for(client: Client) -> Option<Command>
     ensures { result ≡ command_asking client }
 {
     match client {
-        Client::Cast { by, body } => Command::Cast { by, body },
-        Client::Publish { by, body } => Command::Publish { by, body },
-        Client::Get { by } => Command::Get { by },
-        Client::Pop { by } => Command::Pop { by },
-        Client::Ack { by, at } => Command::Ack { by, at },
-        Client::Requeue { by, at } => Command::Requeue { by, at },
-        Client::Admit { by, name } => Command::Join { by, name },
-        Client::Stop { by } => Command::Kill { by },
+        Client::Cast { by, body } => Some(Command::Cast { by, body }),
+        Client::Publish { by, body } => Some(Command::Publish { by, body }),
+        Client::Get { by } => Some(Command::Get { by }),
+        Client::Pop { by } => Some(Command::Pop { by }),
+        Client::Ack { by, at } => Some(Command::Ack { by, at }),
+        Client::Requeue { by, at } => Some(Command::Requeue { by, at }),
+        Client::Sync { .. } => None,
+        Client::Admit { by, name } => Some(Command::Join { by, name }),
+        Client::Stop { by } => Some(Command::Kill { by }),
     }
 }
 

@@ -4,7 +4,8 @@ ghost use Rattle.std.specs.List.{list_all};
 ghost use Rattle.ring_script.specs.Words.{is_text_byte, words_of};
 ghost use Rattle.ring_script.specs.Place.{left_in};
 ghost use Rattle.ring_script.specs.Fault.{Tells};
-ghost use Rattle.ring_script.specs.Steps.{is_asked_step, asked_word as the_asked_word, step_grammar};
+ghost use Rattle.ring_script.specs.Steps.{is_step as is_a_step, step_word as the_step_word, is_asked_step, asked_word as the_asked_word};
+ghost use Rattle.ring_script.specs.Steps.{step_grammar};
 ghost use Rattle.ring_script.specs.Steps.{event_fault, client_fault, refuse_fault, event_by, refused_by, refusal_in};
 ghost use Rattle.ring_script.specs.Steps.{event_of};
 ghost use Rattle.ring_script.specs.Reading.{AreStepsOf, IsFirstFault, CanOpen, JudgesEachText};
@@ -34,7 +35,7 @@ impl Statement for Event {
         let _ = known;
         by_word!(word;
             b"refuse" => read_refuse(alloc, rest),
-            _ => read_event(alloc, Word::of(word).ok_or(Kind::UnknownCommand)?, rest)
+            _ => read_event(alloc, step_word(word).ok_or(Kind::UnknownCommand)?, rest)
         )
     }
 
@@ -42,6 +43,24 @@ impl Statement for Event {
     fn joined(&self) -> Option<Name> {
         None
     }
+}
+
+/// The word that the text is, if step files have it.
+fn step_word(text: &[u8]) -> Option<Word>
+    ensures { result ≡ the_step_word text.now }
+{
+    let word = Word::of(text)?;
+    if is_step(word) { Some(word) } else { None }
+}
+
+/// Whether step files have the word. They have those of what members do, who don't copy a queue yet.
+fn is_step(word: Word) -> bool
+    ensures { result ≡ is_a_step word }
+{
+    !matches!(
+        word,
+        Word::Sync | Word::SyncPut | Word::SyncTake | Word::SyncGain
+    )
 }
 
 /// The word that the text is, if step files have it for what a client asked.

@@ -158,6 +158,9 @@ const COMMANDS: &str = "\
 2 52 members a|kills a
 2 52 members a|stop a
 2 52 members a|sync a b
+2 52 members a|syncput a
+2 52 members a|synctake a
+2 52 members a|syncgain a
 2 52 members a|put a
 2 52 members a|refresh a 1
 -- Words are missing, or too many, before what stands there is judged.
@@ -310,6 +313,21 @@ const EVENTS: &str = "\
 2 52 members a|join a n
 2 52 members a|Admit a n
 2 52 members a|admits a n
+2 52 members a|syn a b
+2 52 members a|syncs a b
+2 52 members a|Sync a b
+2 52 members a|syncpu a
+-- Nor have step files the words of copies, which no member makes yet.
+2 52 members a|sync a n
+2 52 members a b|sync a b
+2 52 members a|sync
+2 52 members a|sync A B c
+2 52 members a|syncput a
+2 52 members a|syncput   |
+2 52 members a|synctake n
+2 52 members a|synctake A b
+2 52 members a|syncgain a
+2 52 members a|syncgain abcdefghijklmnopq
 -- Nor is what was refused what a client asks for.
 2 52 members a|refuse a n
 2 52 members a|refuse 12 put a
@@ -318,7 +336,14 @@ const EVENTS: &str = "\
 2 52 members a|refuse 12 synced a
 2 52 members a|refuse x kill A
 2 52 members a|refuse 12 refuse 12 stop a
-2 52 members a|sync a b
+2 52 members a|refuse 31 sync a n
+2 52 members a b|refuse 31 sync a b
+2 52 members a|refuse 0 sync A B
+2 52 members a|refuse x sync A
+2 52 members a|refuse x sync A b c
+2 52 members a|refuse 31 syncput a
+2 52 members a|refuse x synctake A
+2 52 members a|refuse 37 syncgain a
 2 52 members a|kill a
 -- Words are missing, or too many, before what stands there is judged.
 2 53 members a|cast
@@ -750,11 +775,15 @@ fn last_event(lines: &[(u32, Event)]) -> [u8; 4] {
         Event::Depth { by } => [b'd', letter(by), b'-', line],
         Event::Start { by } => [b'b', letter(by), b'-', line],
         Event::Synced { by } => [b'y', letter(by), b'-', line],
+        Event::Sync { by, target } => [b'v', letter(by), letter(target), line],
+        Event::SyncPut { by } => [b'i', letter(by), b'-', line],
+        Event::SyncTake { by } => [b'w', letter(by), b'-', line],
+        Event::SyncGain { by } => [b'l', letter(by), b'-', line],
     }
 }
 
 /// Of what was refused with this number its member's first letter, and the length of its body or its second name. Where
-/// that was asked of the queue, a letter for its word, and that length, its position or its member.
+/// that was asked of the queue, a letter for its word, and that length, its position, its second name or its member.
 fn refused(code: u8, inner: &Client) -> [u8; 4] {
     match inner {
         Client::Cast { by, body } => [b'f', code, letter(by), length(body)],
@@ -765,6 +794,7 @@ fn refused(code: u8, inner: &Client) -> [u8; 4] {
         Client::Pop { by } => [b'f', code, b'o', letter(by)],
         Client::Ack { by: _, at } => [b'f', code, b'a', digit(at.0)],
         Client::Requeue { by: _, at } => [b'f', code, b'q', digit(at.0)],
+        Client::Sync { by: _, target } => [b'f', code, b'v', letter(target)],
     }
 }
 

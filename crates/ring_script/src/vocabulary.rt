@@ -26,6 +26,8 @@ pub enum Word {
     Depth,
     /// A new master begins.
     Start,
+    /// The master opens a copy of its queue to another member.
+    Sync,
     /// It puts a packet.
     Put,
     /// It takes a packet.
@@ -48,6 +50,12 @@ pub enum Word {
     Erase,
     /// It misses nothing, and is registered as synchronised.
     Synced,
+    /// The master puts the next load on its copy.
+    SyncPut,
+    /// It takes the oldest load of a copy that is made to it.
+    SyncTake,
+    /// The master gains a grant on its copy as credit.
+    SyncGain,
 }
 
 /// What stands behind the member's name.
@@ -119,6 +127,7 @@ impl Word {
             b"requeue" => Some(Word::Requeue),
             b"depth" => Some(Word::Depth),
             b"start" => Some(Word::Start),
+            b"sync" => Some(Word::Sync),
             b"put" => Some(Word::Put),
             b"take" => Some(Word::Take),
             b"takeend" => Some(Word::TakeEnd),
@@ -130,6 +139,9 @@ impl Word {
             b"pick" => Some(Word::Pick),
             b"erase" => Some(Word::Erase),
             b"synced" => Some(Word::Synced),
+            b"syncput" => Some(Word::SyncPut),
+            b"synctake" => Some(Word::SyncTake),
+            b"syncgain" => Some(Word::SyncGain),
             _ => None
         )
     }
@@ -147,6 +159,7 @@ impl Word {
             Word::Requeue => b"requeue",
             Word::Depth => b"depth",
             Word::Start => b"start",
+            Word::Sync => b"sync",
             Word::Put => b"put",
             Word::Take => b"take",
             Word::TakeEnd => b"takeend",
@@ -158,6 +171,9 @@ impl Word {
             Word::Pick => b"pick",
             Word::Erase => b"erase",
             Word::Synced => b"synced",
+            Word::SyncPut => b"syncput",
+            Word::SyncTake => b"synctake",
+            Word::SyncGain => b"syncgain",
         }
     }
 
@@ -168,12 +184,13 @@ impl Word {
         match self {
             Word::Cast | Word::Publish => Shape::Body,
             Word::Ack | Word::Requeue => Shape::Position,
-            Word::Mark | Word::Erase => Shape::Name,
+            Word::Sync | Word::Mark | Word::Erase => Shape::Name,
             Word::Admit => Shape::Newcomer,
             Word::Refresh => Shape::Version,
             Word::Get | Word::Pop | Word::Depth | Word::Start | Word::Synced => Shape::Nothing,
             Word::Put | Word::Take | Word::TakeEnd | Word::Gain => Shape::Nothing,
             Word::Stop | Word::Pick => Shape::Nothing,
+            Word::SyncPut | Word::SyncTake | Word::SyncGain => Shape::Nothing,
         }
     }
 }
@@ -199,6 +216,7 @@ impl Phrase {
             )),
             Event::Depth { by } => Ok(Phrase::own(Word::Depth, by)),
             Event::Start { by } => Ok(Phrase::own(Word::Start, by)),
+            Event::Sync { by, target } => Ok(Phrase::with(Word::Sync, by, Further::Name(*target))),
             Event::Put { by } => Ok(Phrase::own(Word::Put, by)),
             Event::Take { by } => Ok(Phrase::own(Word::Take, by)),
             Event::TakeEnd { by } => Ok(Phrase::own(Word::TakeEnd, by)),
@@ -218,6 +236,9 @@ impl Phrase {
                 Further::Name(*origin),
             )),
             Event::Synced { by } => Ok(Phrase::own(Word::Synced, by)),
+            Event::SyncPut { by } => Ok(Phrase::own(Word::SyncPut, by)),
+            Event::SyncTake { by } => Ok(Phrase::own(Word::SyncTake, by)),
+            Event::SyncGain { by } => Ok(Phrase::own(Word::SyncGain, by)),
             Event::Refuse { code: _, inner } => Phrase::of_client(inner),
         }
     }
@@ -237,6 +258,7 @@ impl Phrase {
                 by,
                 Further::Position(*at),
             )),
+            Client::Sync { by, target } => Ok(Phrase::with(Word::Sync, by, Further::Name(*target))),
             Client::Stop { by } => Ok(Phrase::own(Word::Stop, by)),
             Client::Admit { by, name } => Ok(Phrase::with(Word::Admit, by, Further::Name(*name))),
         }
@@ -305,6 +327,9 @@ fn own_event(word: Word, by: Name) -> Option<Event>
         Word::Stop => Some(Event::Stop { by }),
         Word::Pick => Some(Event::Pick { by }),
         Word::Synced => Some(Event::Synced { by }),
+        Word::SyncPut => Some(Event::SyncPut { by }),
+        Word::SyncTake => Some(Event::SyncTake { by }),
+        Word::SyncGain => Some(Event::SyncGain { by }),
         _ => None,
     }
 }
@@ -325,6 +350,7 @@ fn event_with_name(word: Word, by: Name, name: Name) -> Option<Event>
     ensures { result ≡ event_of_name word by name }
 {
     match word {
+        Word::Sync => Some(Event::Sync { by, target: name }),
         Word::Mark => Some(Event::Mark { by, dead: name }),
         Word::Erase => Some(Event::Erase { by, origin: name }),
         Word::Admit => Some(Event::Admit { by, name }),
@@ -364,6 +390,7 @@ fn asked_as(event: Event) -> Option<Client>
         Event::Pop { by } => Some(Client::Pop { by }),
         Event::Ack { by, at } => Some(Client::Ack { by, at }),
         Event::Requeue { by, at } => Some(Client::Requeue { by, at }),
+        Event::Sync { by, target } => Some(Client::Sync { by, target }),
         Event::Stop { by } => Some(Client::Stop { by }),
         Event::Admit { by, name } => Some(Client::Admit { by, name }),
         _ => None,

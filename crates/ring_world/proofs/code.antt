@@ -5,6 +5,7 @@ pub mod HeldLaws
 pub mod HeldQueue
 pub mod Joins
 pub mod Noting
+pub mod OfCopies
 pub mod Padded
 pub mod Resting
 pub mod Rules
@@ -13,5 +14,6 @@ pub mod Sent
 pub mod ShownParts
 pub mod Sized
 pub mod Starts
+pub mod Steps
 pub mod Taken
 pub mod Viewed

@@ -1,4 +1,5 @@
 pub mod Placed
-pub mod Reached
 pub mod Shows
+pub mod Copied
+pub mod Reached
 pub mod Walking

@@ -33,6 +33,16 @@ pub(crate) fn may_cast(ring: &Ring, place: usize) -> Result<(), Reason>
     Ok(())
 }
 
+/// A ring by itself has no copies: who is up waits for them.
+#[tactic(auto, using(crate::proofs::code::ShownParts::read_member))]
+pub(crate) fn may_copy(ring: &Ring, place: usize) -> Result<(), Reason>
+    requires { place < length ring.now.members.items }
+    ensures { result ≡ answer_of (up_refusal (world_of ring.now) (suc place) (Some reason.Waiting)) }
+{
+    ring.members[place].phase.is_up()?;
+    Err(Reason::Waiting)
+}
+
 /// The link on which the member at a place sends, where it is up.
 #[tactic(auto, using(crate::proofs::code::ShownParts::read_member, crate::proofs::code::Found::out_within))]
 fn out_link(ring: &Ring, place: usize) -> Result<usize, Reason>

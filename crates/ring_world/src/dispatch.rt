@@ -1,9 +1,9 @@
-//! Each event's conditions and its step.
+//! The conditions and the step of each event of the ring by itself.
 ghost use Rattle.std.specs.Prelude.{◌≡◌, suc, None, OnOk, OnErr};
 ghost use Rattle.ring_rules.specs.Refusal.{answer_of};
 ghost use Rattle.ring_rules.specs.Kind.{Steps, Changes};
-ghost use Rattle.ring_rules.specs.Event.{refusal, refused_at, doing_as, effect, done_at, done_as};
-ghost use Rattle.ring_world.specs.Placed.{IsPlaced, IsPlacedAt, IsReady, IsReadyAt};
+ghost use Rattle.ring_rules.specs.Event.{refused_at, doing_as, done_at, done_as};
+ghost use Rattle.ring_world.specs.Placed.{IsPlacedAt, IsReadyAt};
 ghost use Rattle.ring_world.specs.Shows.{world_of};
 
 use crate::asking::{ask, may_ask, may_publish, publish};
@@ -19,17 +19,6 @@ use crate::{arms, conditions, membership};
 use ring_names::{OutOfMemory, Reason};
 use ring_rules::{Event, Kind, LinkStep, ViewChange};
 use std::alloc::Global;
-
-/// The first condition of an event that fails.
-pub(crate) fn enabled(ring: &Ring, event: &Event) -> Result<(), Reason>
-    requires { IsPlaced (world_of ring.now) }
-    ensures { result ≡ answer_of (refusal (world_of ring.now) event.now) }
-{
-    match place_in(ring, event.by()) {
-        None => Err(Reason::UnknownMember),
-        Some(place) => enabled_at(ring, place, event),
-    }
-}
 
 /// Whether the member at a place may do a step on its links.
 fn may_step(ring: &Ring, place: usize, step: LinkStep) -> Result<(), Reason>
@@ -59,7 +48,7 @@ fn may_change(ring: &Ring, place: usize, change: ViewChange) -> Result<(), Reaso
 }
 
 /// The first condition that fails of an event of the member at a place.
-fn enabled_at(ring: &Ring, place: usize, event: &Event) -> Result<(), Reason>
+pub(crate) fn enabled_at(ring: &Ring, place: usize, event: &Event) -> Result<(), Reason>
     requires { IsPlacedAt ring.now place }
     ensures { result ≡ answer_of (refused_at (world_of ring.now) event.now (suc place)) }
 {
@@ -72,22 +61,10 @@ fn enabled_at(ring: &Ring, place: usize, event: &Event) -> Result<(), Reason>
             _ => may_publish(ring, place),
         },
         Kind::Links(step) => may_step(ring, place, step),
+        Kind::Copies(_) => conditions::may_copy(ring, place),
         Kind::Changes(change) => may_change(ring, place, change),
         Kind::Stops => conditions::may_stop(ring, place),
         Kind::Reads(version) => membership::may_refresh(ring, place, version),
-    }
-}
-
-/// An enabled event happens.
-pub(crate) fn step(alloc: Global, ring: &mut Ring, event: &Event) -> Result<(), OutOfMemory>
-    requires ready { IsReady (world_of ring.old) }
-    requires enabled { refusal (world_of ring.old) event.now ≡ None }
-    ensures ok { OnOk result (world_of ring.new ≡ effect (world_of ring.old) event.now) }
-    ensures err { OnErr result (world_of ring.new ≡ world_of ring.old) }
-{
-    match place_in(ring, event.by()) {
-        None => unreachable!(),
-        Some(place) => step_at(alloc, ring, place, event),
     }
 }
 
@@ -138,7 +115,12 @@ fn change_view(
 
 /// An enabled event of the member at a place happens.
 #[tactic(auto, using(crate::proofs::code::Rules::happening))]
-fn step_at(alloc: Global, ring: &mut Ring, place: usize, event: &Event) -> Result<(), OutOfMemory>
+pub(crate) fn step_at(
+    alloc: Global,
+    ring: &mut Ring,
+    place: usize,
+    event: &Event,
+) -> Result<(), OutOfMemory>
     requires ready { IsReadyAt ring.old place }
     requires enabled { refused_at (world_of ring.old) event.now (suc place) ≡ None }
     ensures ok { OnOk result (world_of ring.new ≡ done_at (world_of ring.old) event.now (suc place)) }
@@ -153,6 +135,7 @@ fn step_at(alloc: Global, ring: &mut Ring, place: usize, event: &Event) -> Resul
             _ => Ok(()),
         },
         Kind::Links(step) => do_step(alloc, ring, place, step),
+        Kind::Copies(_) => unreachable!(),
         Kind::Changes(change) => change_view(alloc, ring, place, change),
         Kind::Stops => {
             arms::stop(ring, place);

@@ -1,5 +1,5 @@
-//! The ring as a plain machine, which obeys the rules of ring_rules: what each event does, as code on structs.
-//! Begin at `World`. The rules, and how the ring goes on, are told at the head of ring_rules.
+//! The ring as a plain machine, which obeys the rules of ring_rules and, of copies of the queue, of ring_copies: what each
+//! event does, as code on structs. Begin at `World`. The rules, and how the ring goes on, are told at the head of ring_rules.
 #![tactic(auto)]
 
 mod arms;
@@ -7,6 +7,8 @@ mod asked;
 mod asking;
 mod changing;
 mod conditions;
+mod copies;
+mod copying;
 mod dispatch;
 mod erasing;
 mod joining;
@@ -16,6 +18,7 @@ mod membership;
 mod neighbours;
 mod operations;
 mod places;
+mod plain_copy;
 mod plain_link;
 mod plain_links;
 mod plain_member;
@@ -26,6 +29,7 @@ mod refreshing;
 mod refusing;
 mod starting;
 mod state;
+mod stepping;
 mod syncing;
 mod taking;
 mod walk;

@@ -1,10 +1,11 @@
 //! A member of the plain machine.
-ghost use Rattle.std.specs.Prelude.{◌≡◌, ℕ, ◌+◌, ◌^◌, ◌<◌, ◌≤◌, length, map};
+ghost use Rattle.std.specs.Prelude.{◌≡◌, ℕ, ◌+◌, ◌^◌, ◌<◌, ◌≤◌, true, length, map};
+ghost use Rattle.queue_sync.specs.Copy.{copied_mirror};
 ghost use Rattle.std.specs.Prelude.{bytes_eq, take, vec_len, vec_capacity, IfOk, OnOk, OnErr};
 ghost use Rattle.std.specs.List.{range_with_len};
 ghost use Rattle.ring_rules.specs.Rows.{no_row, published_row, taken_with};
 ghost use Rattle.ring_rules.specs.Machine.{row_at, numbers_at as the_numbers};
-ghost use Rattle.ring_rules.specs.Step.{published as is_published, begun_row, begun};
+ghost use Rattle.ring_rules.specs.Step.{published as is_published, begun_row, begun, copied};
 ghost use Rattle.ring_world.specs.Shows.{followed};
 ghost use Rattle.ring_world.specs.Shows.{row_of, row_in, member_of, packet_of, room_of, with_news, news_of};
 ghost use Rattle.ring_world.specs.Shows.{news_in, looked, HasRoom, operations_in};
@@ -13,6 +14,7 @@ use crate::operations::{apply_all, is_start, operation_of, operations, tells};
 use crate::plain_link::Packet;
 use queue_core::{Message, Op};
 use queue_mirror::Mirror;
+use queue_sync::{SyncFault, SyncIn};
 use ring_names::{Name, OutOfMemory};
 use ring_rules::{Numbers, Phase, numbers_at};
 use std::alloc::Global;
@@ -201,6 +203,23 @@ impl PlainMember {
             self.told = self.version;
         }
         self.mirror.apply_reserved(operation);
+    }
+
+    /// Its mirror is what was taken of a copy, with the operations behind the mark: it is whole.
+    pub(crate) fn copy(&mut self, taken: &mut SyncIn) -> Result<(), OutOfMemory>
+        requires { (taken.old).marked ≡ true }
+        ensures ok { OnOk result (member_of self.new ≡ copied
+            (copied_mirror (member_of self.old).mirror (taken.old).aside (taken.old).since) (member_of self.old)) }
+        ensures err { OnErr result (member_of self.new ≡ member_of self.old) }
+    {
+        match taken.done(&mut self.mirror) {
+            Ok(()) => {
+                self.whole = true;
+                Ok(())
+            }
+            Err(SyncFault::OutOfMemory) => Err(OutOfMemory),
+            Err(SyncFault::Refused(_)) => unreachable!(),
+        }
     }
 
     /// Takes in a packet with what it brings of each origin, the queue's operations among it.

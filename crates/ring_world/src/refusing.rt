@@ -38,6 +38,7 @@ fn may_do(ring: &Ring, place: usize, asked: &Client) -> Result<(), Reason>
     match asked {
         Client::Cast { .. } => conditions::may_cast(ring, place),
         Client::Publish { .. } => may_publish(ring, place),
+        Client::Sync { .. } => conditions::may_copy(ring, place),
         Client::Stop { .. } => conditions::may_stop(ring, place),
         Client::Admit { name, .. } => membership::may_admit(ring, place, name),
         _ => match asked.asking() {
@@ -47,6 +48,17 @@ fn may_do(ring: &Ring, place: usize, asked: &Client) -> Result<(), Reason>
     }
 }
 
+/// Whether a client is refused with this number, beside the answer of what it asked.
+pub(crate) fn refused_with(code: u32, answer: Result<(), Reason>) -> Result<(), Reason>
+    ensures { (refusal : Option Reason) → answer ≡ answer_of refusal
+        → result ≡ answer_of (refuse_if (not (told code refusal)) reason.NotRefused) }
+{
+    if !is_told(code, answer) {
+        return Err(Reason::NotRefused);
+    }
+    Ok(())
+}
+
 /// Whether it may refuse that with this number.
 pub(crate) fn may_refuse(ring: &Ring, place: usize, code: u32, asked: &Client) -> Result<(), Reason>
     requires { IsPlacedAt ring.now place }
@@ -54,8 +66,5 @@ pub(crate) fn may_refuse(ring: &Ring, place: usize, code: u32, asked: &Client) -
         (not (told code (doing_refusal (world_of ring.now) (event_of asked.now) (suc place))))
         reason.NotRefused) }
 {
-    if !is_told(code, may_do(ring, place, asked)) {
-        return Err(Reason::NotRefused);
-    }
-    Ok(())
+    refused_with(code, may_do(ring, place, asked))
 }

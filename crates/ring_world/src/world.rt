@@ -16,16 +16,20 @@ ghost use Rattle.ring_rules.specs.Asked.{id_at, heard_at, got_at, base_at, log_a
 ghost use Rattle.ring_rules.specs.Asked.{counts_at, item_at};
 ghost use Rattle.queue_core.specs.Shown.{item_of};
 ghost use Rattle.ring_rules.specs.Quiet.{IsQuiet};
-ghost use Rattle.ring_rules.specs.Laws.{IsLawful};
 ghost use Rattle.ring_rules.specs.QueuePart.{part_of};
 ghost use Rattle.queue_laws.specs.Laws.{MirrorsAgree, ConfirmedStands};
-ghost use Rattle.ring_rules.specs.Event.{refusal, effect, id_of, refusals_of};
+ghost use Rattle.ring_rules.specs.Event.{id_of, refusals_of};
+ghost use Rattle.ring_copies.specs.Runs.{refusal, effect};
+ghost use Rattle.ring_copies.specs.Laws.{IsLawfulWithCopies};
+ghost use Rattle.ring_world.specs.Reached.{with_copies};
+ghost use Rattle.ring_world.specs.Copied.{state_in, AreCopied, AreThen};
 
 use crate::neighbours::newest_view;
 use crate::places::place_in;
+use crate::plain_copy::PlainCopy;
 use crate::state::Ring;
 use crate::walk::walk_of_name;
-use crate::{asked, dispatch, quiet, starting};
+use crate::{asked, quiet, starting, stepping};
 use group_view::View;
 use queue_core::{Held, Message};
 use queue_mirror::Mirror;
@@ -37,33 +41,41 @@ use std::marker::Model;
 /// The most events that a ring ever applies.
 const MOST_EVENTS: u64 = (1 << 59) - 1;
 
-/// A refusal is noted, which leaves the ring as it is; another event happens.
+/// An enabled event happens; a refusal is noted.
 #[tactic(auto, using(crate::proofs::code::Rules::noting))]
 fn happen(
     alloc: Global,
     ring: &mut Ring,
+    copies: &mut Vec<PlainCopy>,
     refusals: &mut Vec<Event>,
     event: &Event,
 ) -> Result<(), OutOfMemory>
     requires ready { IsReady (world_of ring.old) }
-    requires enabled { refusal (world_of ring.old) event.now ≡ None }
-    ensures ok { OnOk result (world_of ring.new ≡ effect (world_of ring.old) event.now) }
+    requires copied { AreCopied (state_in ring.old copies.old.items) }
+    requires enabled { refusal (state_in ring.old copies.old.items) event.now ≡ None }
+    requires then { AreThen (state_in ring.old copies.old.items) event.now }
+    ensures ok { OnOk result (state_in ring.new copies.new.items
+        ≡ effect (state_in ring.old copies.old.items) event.now) }
     ensures refusals { OnOk result (refusals.new.items ≡ refusals.old.items ++ refusals_of (event.now ∷ [])) }
-    ensures err { OnErr result (world_of ring.new ≡ world_of ring.old) }
+    ensures err { OnErr result (state_in ring.new copies.new.items ≡ state_in ring.old copies.old.items) }
     ensures err_refusals { OnErr result (refusals.new.items ≡ refusals.old.items) }
 {
-    if event.is_refusal() {
-        refusals.push(event.copy()?)?;
-        return Ok(());
+    if !event.is_refusal() {
+        return stepping::step(alloc, ring, copies, event);
     }
-    dispatch::step(alloc, ring, event)
+    let noted = event.copy()?;
+    refusals.reserve(1)?;
+    stepping::step(alloc, ring, copies, event)?;
+    refusals.push_reserved(noted);
+    Ok(())
 }
 
-/// A ring: its members, the links between them, its views, and what its members refused.
+/// A ring: its members, the links between them, its views, the copies of its queue, and what its members refused.
 #[derive(Drop)]
 pub struct World {
     alloc: Global,
     ring: Ring,
+    copies: Vec<PlainCopy>,
     refusals: Vec<Event>,
     applied: u64,
 }
@@ -90,12 +102,14 @@ impl World {
     ) -> Result<World, OutOfMemory>
         requires { AreOpeningNames members.now }
         ensures ring { IfOk result (λ w. w.ring ≡ the_opening credit members.now) }
+        ensures copies { IfOk result (λ w. w.copies ≡ []) }
         ensures refusals { IfOk result (λ w. w.refusals ≡ []) }
     {
         let ring = starting::opening(alloc, members, credit)?;
         Ok(World {
             alloc,
             ring,
+            copies: Vec::new(alloc),
             refusals: Vec::new(alloc),
             applied: 0,
         })
@@ -253,27 +267,27 @@ impl World {
     /// The first condition of the event that fails, if one fails. It wants no memory.
     #[tactic(auto, using(crate::proofs::code::Running::running_placed))]
     pub fn enabled(&self, event: &Event) -> Result<(), Reason>
-        ensures { result ≡ answer_of (refusal (self.now).ring event.now) }
+        ensures { result ≡ answer_of (refusal (with_copies self.now) event.now) }
     {
-        dispatch::enabled(&self.ring, event)
+        stepping::enabled(&self.ring, &self.copies, event)
     }
 
     /// The event happens, where it is enabled. Want of memory leaves the ring as it was; after
     /// 2^59 - 1 events each further one is answered so.
     pub fn apply(&mut self, event: &Event) -> Result<(), Refused>
-        ensures enabled { OnOk result (refusal (self.old).ring event.now ≡ None) }
-        ensures ok { OnOk result ((self.new).ring ≡ effect (self.old).ring event.now) }
+        ensures enabled { OnOk result (refusal (with_copies self.old) event.now ≡ None) }
+        ensures ok { OnOk result (with_copies self.new ≡ effect (with_copies self.old) event.now) }
         ensures refusals { OnOk result ((self.new).refusals
             ≡ (self.old).refusals ++ refusals_of (event.now ∷ [])) }
-        ensures lawful { OnOk result (IsLawful (self.new).ring.initial (self.new).ring) }
+        ensures lawful { OnOk result (IsLawfulWithCopies (self.new).ring.initial (with_copies self.new)) }
         ensures mirrors { OnOk result (MirrorsAgree (part_of (self.new).ring)) }
         ensures confirmed { OnOk result (ConfirmedStands (part_of (self.new).ring)) }
-        ensures refused { (reason : Reason) → refusal (self.old).ring event.now ≡ Some reason
+        ensures refused { (reason : Reason) → refusal (with_copies self.old) event.now ≡ Some reason
             → result ≡ Err (Refused.NotEnabled reason) }
         ensures reason { IfErr result (λ e. (reason : Reason) → e ≡ Refused.NotEnabled reason
-            → refusal (self.old).ring event.now ≡ Some reason) }
+            → refusal (with_copies self.old) event.now ≡ Some reason) }
         ensures memory { IfErr result (λ e. e ≡ Refused.OutOfMemory
-            → refusal (self.old).ring event.now ≡ None) }
+            → refusal (with_copies self.old) event.now ≡ None) }
         ensures err { OnErr result (self.new ≡ self.old) }
     {
         if let Err(reason) = self.enabled(event) {
@@ -282,7 +296,15 @@ impl World {
         if self.applied >= MOST_EVENTS {
             return Err(Refused::OutOfMemory);
         }
-        if happen(self.alloc, &mut self.ring, &mut self.refusals, event).is_err() {
+        if happen(
+            self.alloc,
+            &mut self.ring,
+            &mut self.copies,
+            &mut self.refusals,
+            event,
+        )
+        .is_err()
+        {
             return Err(Refused::OutOfMemory);
         }
         self.applied += 1;

@@ -3,8 +3,8 @@ use Rattle.std.proofs.Common.{◌≡◌, ℕ, ◌+◌, ◌≤◌, ◌<◌, ◌^�
 use Rattle.std.proofs.lemmas.List.{length-append}
 use Rattle.ring_names.specs.declared.reason.Reason.{Reason}
 use Rattle.ring_rules.specs.declared.event.Event.{Event}
-use Rattle.ring_rules.specs.Event.{refusal}
-use Rattle.ring_world.specs.Reached.{WorldSeen}
+use Rattle.ring_copies.specs.Runs.{refusal}
+use Rattle.ring_world.specs.Reached.{WorldSeen, with_copies}
 use Rattle.ring_script.specs.Words.{lines_of}
 use Rattle.ring_journal.specs.declared.fault.Kind.{Kind}
 use Rattle.ring_journal.specs.declared.verdict.Verdict.{Verdict}
@@ -39,7 +39,7 @@ said_few : (w end : WorldSeen) (done events : List Event) (number n : ℕ) (said
     → ((e : Event) → judged (behind w e) (done ++ e ∷ []) (number + 1) lines ≡ Legal end events → length events ≤ n) → length events ≤ n
 said_few w end done events number n (Err kind) lines h few = absurd cc
 said_few w end done events number n (Ok e) lines h few =
-    enabled_few end events number n (refusal w.ring e) (judged (behind w e) (done ++ e ∷ []) (number + 1) lines) h (few e)
+    enabled_few end events number n (refusal (with_copies w) e) (judged (behind w e) (done ++ e ∷ []) (number + 1) lines) h (few e)
 
 judged_few : (w end : WorldSeen) (done events : List Event) (number : ℕ) (lines : List (List ℕ)) → judged w done number lines ≡ Legal end events → length events ≤ length done + length lines
 judged_few w end done events number [] h = let same : length done ≡ length events = ap length (none_left w end done events h) in omega (arith, same)

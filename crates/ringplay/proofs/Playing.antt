@@ -1,6 +1,6 @@
 -- What the journal of a played script has.
-use Rattle.std.proofs.Common.{◌≡◌, ℕ, zero, suc, ◌<◌, ◌≤◌, ◌^◌, List, [], ◌∷◌, ◌++◌, length, min, take, drop, Some, refl, sym, ap, subst, ◌∙◌, arith}
-use Rattle.std.proofs.lemmas.List.{take-take, take-append-drop, length-take}
+use Rattle.std.proofs.Common.{◌≡◌, ℕ, zero, suc, ◌<◌, ◌≤◌, ◌^◌, List, [], ◌∷◌, ◌++◌, length, map, min, take, drop, Some, refl, sym, ap, subst, ◌∙◌, arith}
+use Rattle.std.proofs.lemmas.List.{take-take, length-map, length-take}
 use Rattle.ring_names.specs.declared.numbers.CreditSpec.{CreditSpec}
 use Rattle.ring_script.specs.declared.command.Command.{Command}
 use Rattle.ring_script.specs.declared.command.Command.TheVariants as command
@@ -8,15 +8,20 @@ use Rattle.group_view.specs.Change.{AreOpeningNames}
 use Rattle.ring_rules.specs.declared.event.Event.{Event}
 use Rattle.ring_rules.specs.Machine.{World}
 use Rattle.ring_rules.specs.Step.{opening}
-use Rattle.ring_rules.specs.Event.{IsRun, effect, last}
+use Rattle.ring_rules.specs.Event as ring
+use Rattle.ring_copies.specs.Copies.{CopyWorld}
+use Rattle.ring_copies.specs.Events.{sort_of}
+use Rattle.ring_copies.specs.Runs.{IsRun, effect, last, without_copies}
+use Rattle.ring_copies.proofs.Alone.{runs_with_copies}
+use Rattle.ring_copies.proofs.Seen.{RingRuns, ring_runs}
+use Rattle.ring_copies.proofs.Runs.{lawful_with_copies, goes_on_with_copies, starts_with_copies, queue_right_with_copies}
 use Rattle.ring_rules.specs.Laws.{IsLawful, GoesOn}
 use Rattle.ring_rules.specs.QueueLaws.{QueueIsRight, LaterMastersStart}
 use Rattle.ring_rules.specs.Quiet.{IsQuiet}
-use Rattle.ring_rules.proofs.runs.OfEvents.{last_append, every_state_lawful, every_run_goes_on, run_queue_right, run_starts}
 use Rattle.ring_cluster.specs.Seen.{Seen, IsGoing, state_of, opening_seen}
 use Rattle.ring_cluster.specs.Plays.{IsOfMember, HasGoneOn}
 use Rattle.ring_cluster.specs.Heard.{OpenersHaveNoBase}
-use Rattle.ring_cluster.proofs.work.Bases.{reached_bases}
+use Rattle.ring_cluster.proofs.work.Bases.{acts_bases}
 use Rattle.ring_cluster.proofs.work.Heard.{run_quiet_has_heard}
 use Rattle.std.specs.List.{All}
 use Rattle.ring_script.specs.declared.text.Text.{Text}
@@ -54,52 +59,56 @@ all_turns names (line ∷ lines) may (suc k) d l = all_turns (names ++ joined_by
 -- ---- runs in two parts
 
 -- its first events are a run
-pub run_front : (w : World) (k : ℕ) (events : List Event) → IsRun w events → IsRun w (take k events)
-run_front w zero events r = tt
-run_front w (suc k) [] r = tt
-run_front w (suc k) (e ∷ es) r = (r.0, run_front (effect w e) k es r.1)
+run_front : (W : CopyWorld) (k : ℕ) (events : List Event) → IsRun W events → IsRun W (take k events)
+run_front W zero events r = tt
+run_front W (suc k) [] r = tt
+run_front W (suc k) (e ∷ es) r = (r.0, run_front (effect W e) k es r.1)
 
 -- and so are the others, from the state after these
-pub run_back : (w : World) (k : ℕ) (events : List Event) → IsRun w events → IsRun (last w (take k events)) (drop k events)
-run_back w zero events r = r
-run_back w (suc k) [] r = tt
-run_back w (suc k) (e ∷ es) r = run_back (effect w e) k es r.1
+run_back : (W : CopyWorld) (k : ℕ) (events : List Event) → IsRun W events → IsRun (last W (take k events)) (drop k events)
+run_back W zero events r = r
+run_back W (suc k) [] r = tt
+run_back W (suc k) (e ∷ es) r = run_back (effect W e) k es r.1
 
 -- after both stands the whole
-whole_run : (w : World) (k : ℕ) (events : List Event) → last (last w (take k events)) (drop k events) ≡ last w events
-whole_run w k events = sym (last_append w (take k events) (drop k events)) ∙ ap (last w) (take-append-drop k events)
+whole_run : (W : CopyWorld) (k : ℕ) (events : List Event) → last (last W (take k events)) (drop k events) ≡ last W events
+whole_run W zero events = refl
+whole_run W (suc k) [] = refl
+whole_run W (suc k) (e ∷ es) = whole_run (effect W e) k es
 
 -- ---- the laws after each prefix
 
-module _ (credit : CreditSpec) (names : List (List ℕ)) (journal : List Event) (are : AreOpeningNames names) (run : IsRun (opening credit names) journal) where
+module _ (credit : CreditSpec) (names : List (List ℕ)) (journal : List Event) (are : AreOpeningNames names) (run : IsRun (without_copies (opening credit names)) journal) where
   -- the ring as it opened
-  abbrev opened : World
-  opened = opening credit names
+  abbrev opened : CopyWorld
+  opened = without_copies (opening credit names)
 
   lawful_after : (k : ℕ) → IsLawful credit.initial (state_after credit names journal k)
-  lawful_after k = every_state_lawful credit names (take k journal) are (run_front opened k journal run)
+  lawful_after k = (lawful_with_copies credit names are (map sort_of (take k journal)) (run_front opened k journal run)).ring
 
   bases_after : (k : ℕ) → OpenersHaveNoBase names (state_after credit names journal k)
-  bases_after k = reached_bases credit names (take k journal) are (run_front opened k journal run)
+  bases_after k =
+      let r : RingRuns opened (map sort_of (take k journal)) = ring_runs opened (map sort_of (take k journal)) (run_front opened k journal run) in
+      subst (OpenersHaveNoBase names) r.ends (acts_bases credit names r.acts are r.run)
 
   queue_after : length journal < 2 ^ 59 → (k : ℕ) → QueueIsRight k (state_after credit names journal k)
   queue_after few k =
-      let len : length (take k journal) ≡ min k (length journal) = length-take k journal in
-      let right : QueueIsRight (length (take k journal)) (state_after credit names journal k) =
-      run_queue_right credit names (take k journal) are (run_front opened k journal run) (omega (arith, len, few)) in
+      let len : length (map sort_of (take k journal)) ≡ min k (length journal) = length-map (take k journal) sort_of ∙ length-take k journal in
+      let right : QueueIsRight (length (map sort_of (take k journal))) (state_after credit names journal k) =
+      queue_right_with_copies credit names are (map sort_of (take k journal)) (omega (arith, len, few)) (run_front opened k journal run) in
       record { agree = right.agree; stands = right.stands; above = right.above; few = λ q. omega (arith, len, right.few q) }
 
   starts_after : (k : ℕ) → LaterMastersStart (state_after credit names journal k)
-  starts_after k = run_starts credit names (take k journal) are (run_front opened k journal run)
+  starts_after k = starts_with_copies credit names are (map sort_of (take k journal)) (run_front opened k journal run)
 
   goes_on_after : (j k : ℕ) → j ≤ k → GoesOn (state_after credit names journal j) (state_after credit names journal k)
   goes_on_after j k l =
       let first : List Event = take k journal in
       let r : IsRun opened first = run_front opened k journal run in
       let same : take j first ≡ take j journal = take-take j k journal l in
-      subst (λ es. GoesOn (last opened es) (last opened first)) same
-      (subst (GoesOn (last opened (take j first))) (whole_run opened j first)
-      (every_run_goes_on credit names (take j first) (drop j first) are (run_front opened j first r) (run_back opened j first r)))
+      subst (λ es. GoesOn (last opened es).ring (last opened first).ring) same
+      (subst (λ (W : CopyWorld). GoesOn (last opened (take j first)).ring W.ring) (whole_run opened j first)
+      (goes_on_with_copies credit names are (map sort_of (take j first)) (map sort_of (drop j first)) (run_front opened j first r) (run_back opened j first r)))
 
   -- each run is lawful
   pub lawful_run : length journal < 2 ^ 59 → IsLawfulRun credit names journal
@@ -110,14 +119,15 @@ module _ (credit : CreditSpec) (names : List (List ℕ)) (journal : List Event) 
 -- What a cluster has that opened with this credit and these members and in which these events have happened.
 pub record HasRun (credit : CreditSpec) (names : List (List ℕ)) (journal : List Event) (c : Seen) : Type 0 where
   pub are : AreOpeningNames names
+  pub alone : ring.IsRun (opening credit names) journal
   pub run : IsLawfulRun credit names journal
-  pub state : state_of c ≡ last (opening credit names) journal
+  pub state : state_of c ≡ ring.last (opening credit names) journal
 
 pub has_run : (credit : CreditSpec) (names : List (List ℕ)) (journal : List Event) (c : Seen) → c.credit ≡ credit → c.names ≡ names → journal ≡ c.events → IsGoing c → HasRun credit names journal c
 has_run credit names journal c ec en ej going =
     let are : AreOpeningNames names = subst AreOpeningNames en going.are in
-    let run : IsRun (opening credit names) journal = rw (sym ec, sym en, ej) going.run in
-    record { are = are; run = lawful_run credit names journal are run (rw ej going.few); state = rw (ec, en, sym ej) refl }
+    let run : ring.IsRun (opening credit names) journal = rw (sym ec, sym en, ej) going.run in
+    record { are = are; alone = run; run = lawful_run credit names journal are (runs_with_copies (without_copies (opening credit names)) journal run).0 (rw ej going.few); state = rw (ec, en, sym ej) refl }
 
 -- ---- a played script
 
@@ -154,14 +164,14 @@ pub played_by : (says : World → List Event → List ℕ) (script : Text Comman
     → journal ≡ c.events → text ≡ says (state_of c) c.events → IsPlayedBy says script journal text (Some c)
 played_by says script c journal text h ej et =
     let ran = played_run script journal c h ej in
-    let quiet : IsQuiet (last (opening script.credit script.members) journal) = subst IsQuiet ran.state h.quiet in
+    let quiet : IsQuiet (ring.last (opening script.credit script.members) journal) = subst IsQuiet ran.state h.quiet in
     record {
       played = record {
         run = ran.run;
         plays = rw (sym h.credit, sym h.names, ej, sym h.given) h.plays;
         quiet = quiet;
-        heard_all = run_quiet_has_heard script.credit script.members journal ran.are ran.run.run quiet.rests;
-        says_so = et ∙ ap (λ w. says w c.events) ran.state ∙ ap (says (last (opening script.credit script.members) journal)) (sym ej);
+        heard_all = run_quiet_has_heard script.credit script.members journal ran.are ran.alone quiet.rests;
+        says_so = et ∙ ap (λ w. says w c.events) ran.state ∙ ap (says (ring.last (opening script.credit script.members) journal)) (sym ej);
       };
       by = record { seen = c; is = refl; names = h.names; credit = h.credit; events = sym ej; given = h.given; empty = h.empty };
     }

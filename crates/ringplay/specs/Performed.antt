@@ -10,7 +10,9 @@ use Rattle.ring_script.specs.Load.{IsLoad}
 use Rattle.ring_rules.specs.declared.event.Event.{Event}
 use Rattle.ring_rules.specs.Machine.{World}
 use Rattle.ring_rules.specs.Step.{opening}
-use Rattle.ring_rules.specs.Event.{IsRun, last, refusals_of}
+use Rattle.ring_rules.specs.Event.{last, refusals_of}
+use Rattle.ring_copies.specs.Runs.{IsRun, without_copies}
+use Rattle.ring_copies.specs.Runs as copies
 use Rattle.ring_rules.specs.Laws.{IsLawful, GoesOn}
 use Rattle.ring_rules.specs.QueueLaws.{QueueIsRight, LaterMastersStart}
 use Rattle.ring_rules.specs.Quiet.{IsQuiet}
@@ -34,15 +36,15 @@ use Rattle.ringplay.specs.Step.{enabled_of, refused_lines}
 
 -- the state after the first k events of a journal, in a ring that opened with these members and this credit
 abbrev pub state_after : CreditSpec → List (List ℕ) → List Event → ℕ → World
-state_after credit names journal k = last (opening credit names) (take k journal)
+state_after credit names journal k = (copies.last (without_copies (opening credit names)) (take k journal)).ring
 
--- The journal is a run of the ring from these members and this credit. The laws hold after each of its prefixes, among them
+-- The journal is a run of the ring and its copies from these members and this credit. The laws hold after each of its prefixes, among them
 -- that each member has heard, of each publisher, its log from the member's base up to what it got. The base of a member of the
 -- opening is 0, so it has heard the front of each log. Of the queue mirrors agree, every confirmed, unacknowledged message
 -- stands in every running synchronised mirror, and whoever leads in a later term published Start before anything else of it.
 -- And from each prefix to each longer one nothing falls.
 pub record IsLawfulRun (credit : CreditSpec) (names : List (List ℕ)) (journal : List Event) : Type 0 where
-  pub run : IsRun (opening credit names) journal
+  pub run : IsRun (without_copies (opening credit names)) journal
   pub few : length journal < 2 ^ 59
   pub lawful : (k : ℕ) → IsLawful credit.initial (state_after credit names journal k)
   pub bases : (k : ℕ) → OpenersHaveNoBase names (state_after credit names journal k)

@@ -2,7 +2,7 @@
 ghost use Rattle.std.specs.Prelude.{◌≡◌, ◌++◌, All, IfOk};
 ghost use Rattle.group_view.specs.Change.{AreOpeningNames};
 ghost use Rattle.ring_rules.specs.Step.{opening};
-ghost use Rattle.ring_rules.specs.Event.{IsRun};
+ghost use Rattle.ring_copies.specs.Runs.{IsRun, without_copies};
 ghost use Rattle.ring_journal.specs.Written.{IsWithin};
 ghost use Rattle.ringplay.specs.Performed.{Tells};
 
@@ -23,7 +23,7 @@ pub(crate) fn with_journal(
 ) -> Result<Vec<u8>, OutOfMemory>
     requires members { AreOpeningNames members.now }
     requires within { All IsWithin events.now }
-    requires run { IsRun (opening credit members.now) events.now }
+    requires run { IsRun (without_copies (opening credit members.now)) events.now }
     ensures { IfOk result (λ whole. Tells kept credit members.now events.now (λ first. first ≡ text.items) whole.items) }
 {
     if !kept {

@@ -1909,6 +1909,97 @@ casts 0 confirmed 0
 publishes 2 confirmed 0
 ready 2 y
 unacked 1 x
+==== The queue is copied, and goes on behind the mark
+check
+{\"credit\":[8,4],\"members\":[\"a\"],\"v\":1}
+[\"publish\",\"a\",\"x\"]
+[\"admit\",\"a\",\"n\"]
+[\"take\",\"n\"]
+[\"sync\",\"a\",\"n\"]
+[\"publish\",\"a\",\"y\"]
+[\"get\",\"a\"]
+[\"syncput\",\"a\"]
+[\"syncput\",\"a\"]
+[\"synctake\",\"n\"]
+[\"put\",\"a\"]
+[\"take\",\"n\"]
+[\"synctake\",\"n\"]
+[\"synced\",\"n\"]
+=> Done, status 0
+ring view=3 term=1 master=a
+member a up synced
+casts 0 confirmed 0
+publishes 2 confirmed 0
+ready 2 y
+unacked 1 x
+member n up synced
+casts 0 confirmed 0
+publishes 0 confirmed 0
+ready 2 y
+unacked 1 x
+==== All is taken before the mark has come
+check
+{\"credit\":[8,4],\"members\":[\"a\"],\"v\":1}
+[\"publish\",\"a\",\"x\"]
+[\"admit\",\"a\",\"n\"]
+[\"take\",\"n\"]
+[\"sync\",\"a\",\"n\"]
+[\"publish\",\"a\",\"y\"]
+[\"get\",\"a\"]
+[\"syncput\",\"a\"]
+[\"syncput\",\"a\"]
+[\"synctake\",\"n\"]
+[\"synctake\",\"n\"]
+=> Illegal { line: 11, code: 35 }, status 7
+illegal 11 35
+==== The master stops before all is copied
+check
+{\"credit\":[8,4],\"members\":[\"a\"],\"v\":1}
+[\"publish\",\"a\",\"x\"]
+[\"admit\",\"a\",\"n\"]
+[\"take\",\"n\"]
+[\"sync\",\"a\",\"n\"]
+[\"syncput\",\"a\"]
+[\"stop\",\"a\"]
+[\"synctake\",\"n\"]
+[\"synctake\",\"n\"]
+=> Done, status 0
+ring view=2 term=1 master=a
+member a stopped
+casts 0 confirmed 0
+publishes 1 confirmed 0
+member n up missing=?
+casts 0 confirmed 0
+publishes 0 confirmed 0
+==== That copy is over
+check
+{\"credit\":[8,4],\"members\":[\"a\"],\"v\":1}
+[\"publish\",\"a\",\"x\"]
+[\"admit\",\"a\",\"n\"]
+[\"take\",\"n\"]
+[\"sync\",\"a\",\"n\"]
+[\"syncput\",\"a\"]
+[\"stop\",\"a\"]
+[\"synctake\",\"n\"]
+[\"synctake\",\"n\"]
+[\"synctake\",\"n\"]
+=> Illegal { line: 10, code: 34 }, status 7
+illegal 10 34
+==== A second copy is refused, a grant comes, and all is put
+check
+{\"credit\":[1,1],\"members\":[\"a\"],\"v\":1}
+[\"publish\",\"a\",\"x\"]
+[\"admit\",\"a\",\"n\"]
+[\"take\",\"n\"]
+[\"sync\",\"a\",\"n\"]
+[\"refuse\",31,\"sync\",\"a\",\"n\"]
+[\"syncput\",\"a\"]
+[\"synctake\",\"n\"]
+[\"syncgain\",\"a\"]
+[\"syncput\",\"a\"]
+[\"syncput\",\"a\"]
+=> Illegal { line: 11, code: 34 }, status 7
+illegal 11 34
 ";
 
 /// The streams of a call: how many bytes they move at once, and the calls of the source and of the sink that fail, or

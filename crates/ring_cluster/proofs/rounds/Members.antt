@@ -32,7 +32,7 @@ use Rattle.ring_rules.proofs.work.Settling.{repair_less, someone}
 use Rattle.gm_member.proofs.Fit.{IsFit, reached_fit}
 use Rattle.ring_cluster.specs.Seen.{Seen, state_of, IsGoing, IsMemberIn, with_event}
 use Rattle.ring_parties.specs.States.{state, IsEventIn}
-use Rattle.ring_cluster.specs.Agendas.{Plan, IsAskedOf, place_among}
+use Rattle.ring_cluster.specs.Agendas.{Plan, IsAskedOf, IsForNoCopy, place_among}
 use Rattle.ring_cluster.specs.Backlog.{backlog}
 use Rattle.ring_cluster.specs.Handed.{least_running}
 use Rattle.ring_cluster.specs.Plays.{asked_event, client_event, client_events, answer_by, answer_to, agenda_of, passes, LeavesAgenda}
@@ -233,14 +233,14 @@ answered c i t r g m refused None h = ap passes refused ∙ h
 answered c i t r g m refused (Some e) h = (h.0 ∙ ap (answer_by t) (sym refused), subst (λ x. refusal (state_of c) x ≡ None) (sym h.0) (refused_enabled c i t r g m h.1 refused))
 
 -- of the first of its tasks
-pub next_answer : (c : Seen) (name : List ℕ) (t : Client) (ts : List Client) → agenda_of c name ≡ t ∷ ts → IsAskedOf name t
+pub next_answer : (c : Seen) (name : List ℕ) (t : Client) (ts : List Client) → agenda_of c name ≡ t ∷ ts → IsAskedOf name t → IsForNoCopy t
     → (o : Option Event) → MatchOption o (passes (refusal (state_of c) (event_of t)) ≡ true) (λ e. (e ≡ answer_to (state_of c) t) × (refusal (state_of c) e ≡ None))
     → MatchOption o (LeavesAgenda c name) (λ e. (u : Client) × (us : List Client) × (agenda_of c name ≡ u ∷ us) × IsAskedOf name u × (e ≡ answer_to (state_of c) u) × (refusal (state_of c) e ≡ None))
-next_answer c name t ts a asks None h = λ u us b.
+next_answer c name t ts a asks none None h = λ u us b.
     let both : t ∷ ts ≡ u ∷ us = sym a ∙ b in
     let same : t ≡ u = cc in
-    (subst (IsAskedOf name) same asks, subst (λ (k : Client). passes (refusal (state_of c) (event_of k)) ≡ true) same h)
-next_answer c name t ts a asks (Some e) h = (t, ts, a, asks, h.0, h.1)
+    (subst (IsAskedOf name) same asks, subst IsForNoCopy same none, subst (λ (k : Client). passes (refusal (state_of c) (event_of k)) ≡ true) same h)
+next_answer c name t ts a asks none (Some e) h = (t, ts, a, asks, h.0, h.1)
 
 -- ---- those who are no members
 

@@ -26,6 +26,7 @@ use Rattle.ring_rules.specs.Machine.{World, member_at, view_in, newest, is_waiti
 use Rattle.ring_rules.specs.Event.{asked_of, event_of, id_of, is_stopped, is_passing, op_refusal, admit_refusal, refusal, refused_at}
 use Rattle.ring_rules.proofs.events.Found.{refused_there}
 use Rattle.ring_rules.proofs.events.Kinds.{event_by}
+use Rattle.ring_cluster.specs.Agendas.{IsForNoCopy}
 use Rattle.ring_cluster.specs.Plays.{is_stop, takes_up}
 use Rattle.ring_cluster.proofs.rounds.Members.{admit_told, up_may}
 
@@ -91,25 +92,26 @@ module _ (w : World) (x : ℕ) where
       let up = up_passes (member_at w x).phase t _ r other takes pass e in
       (up.0, lead_passes g.master x g.term (member_at w x).started r pass (answer_passes (lead_refusal g x (member_at w x).started) answer r pass told up.1))
 
-  by_client : (t : Client) (r : Reason) → takes_up (member_at w x).phase t ≡ true → is_passing r ≡ true → refused_at w (event_of t) x ≡ Some r → MayStart
-  by_client (client.Cast by body) r takes pass e = let up = up_passes (member_at w x).phase (client.Cast by body) None r refl takes pass e in let none : None ≡ Some r = up.1 in cc
-  by_client (client.Stop by) r takes pass e = absurd (stop_tells (member_at w x).phase r pass e)
-  by_client (client.Admit by newcomer) r takes pass e =
+  by_client : (t : Client) (r : Reason) → IsForNoCopy t → takes_up (member_at w x).phase t ≡ true → is_passing r ≡ true → refused_at w (event_of t) x ≡ Some r → MayStart
+  by_client (client.Cast by body) r none takes pass e = let up = up_passes (member_at w x).phase (client.Cast by body) None r refl takes pass e in let never : None ≡ Some r = up.1 in cc
+  by_client (client.Sync by target) r none takes pass e = absurd (false≢true (sym none))
+  by_client (client.Stop by) r none takes pass e = absurd (stop_tells (member_at w x).phase r pass e)
+  by_client (client.Admit by newcomer) r none takes pass e =
       let up = up_passes (member_at w x).phase (client.Admit by newcomer) (admit_refusal w newcomer) r refl takes pass e in
       absurd (false≢true (sym (admit_told (is_taken (view_in w (newest w)).entries newcomer) _ r up.1) ∙ pass))
-  by_client (client.Publish by body) r takes pass e = by_answer (client.Publish by body) _ r refl takes pass (λ h. cc) e
-  by_client (client.Get by) r takes pass e = by_answer (client.Get by) _ r refl takes pass (λ h. empty_told op.Deliver (least_ready (member_at w x).mirror.queue.items) r h) e
-  by_client (client.Pop by) r takes pass e = by_answer (client.Pop by) _ r refl takes pass (λ h. empty_told op.Drop (least_ready (member_at w x).mirror.queue.items) r h) e
-  by_client (client.Ack by at) r takes pass e =
+  by_client (client.Publish by body) r none takes pass e = by_answer (client.Publish by body) _ r refl takes pass (λ h. cc) e
+  by_client (client.Get by) r none takes pass e = by_answer (client.Get by) _ r refl takes pass (λ h. empty_told op.Deliver (least_ready (member_at w x).mirror.queue.items) r h) e
+  by_client (client.Pop by) r none takes pass e = by_answer (client.Pop by) _ r refl takes pass (λ h. empty_told op.Drop (least_ready (member_at w x).mirror.queue.items) r h) e
+  by_client (client.Ack by at) r none takes pass e =
       by_answer (client.Ack by at) _ r refl takes pass (λ h. held_told (op.Ack at) (list_any (is_unacked_at at.0) (member_at w x).mirror.queue.items) (list_any (is_at at.0) (member_at w x).mirror.queue.items) r h) e
-  by_client (client.Requeue by at) r takes pass e =
+  by_client (client.Requeue by at) r none takes pass e =
       by_answer (client.Requeue by at) _ r refl takes pass (λ h. held_told (op.Requeue at) (list_any (is_unacked_at at.0) (member_at w x).mirror.queue.items) (list_any (is_at at.0) (member_at w x).mirror.queue.items) r h) e
 
   -- and so it may
-  pub passing_starts : (t : Client) (r : Reason) → id_of w (asked_of t) ≡ Some x → id_of w (member_at w x).name ≡ Some x → takes_up (member_at w x).phase t ≡ true → is_passing r ≡ true → refusal w (event_of t) ≡ Some r
+  pub passing_starts : (t : Client) (r : Reason) → IsForNoCopy t → id_of w (asked_of t) ≡ Some x → id_of w (member_at w x).name ≡ Some x → takes_up (member_at w x).phase t ≡ true → is_passing r ≡ true → refusal w (event_of t) ≡ Some r
       → ((member_at w x).phase ≡ Up) × (refusal w (Start (member_at w x).name) ≡ None)
-  passing_starts t r there named takes pass e =
-      let may : MayStart = by_client t r takes pass (sym (refused_there w x (event_of t) (ap (id_of w) (event_by t) ∙ there)) ∙ e) in (
+  passing_starts t r none there named takes pass e =
+      let may : MayStart = by_client t r none takes pass (sym (refused_there w x (event_of t) (ap (id_of w) (event_by t) ∙ there)) ∙ e) in (
         may.0,
         refused_there w x (Start (member_at w x).name) named
             ∙ up_may (member_at w x).phase _ may.0 (ap (λ o. op_refusal (or_refused o (Ok (op.Start (length (member_at w x).mirror.queue.items))))) may.1),

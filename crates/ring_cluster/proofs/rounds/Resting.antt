@@ -22,17 +22,19 @@ use Rattle.ring_rules.proofs.rests.Rests.{entry_at}
 use Rattle.ring_rules.proofs.runs.Published.{found_name}
 use Rattle.ring_rules.proofs.runs.OfEvents.{run_idle_is_quiet}
 use Rattle.ring_rules.proofs.work.Fit as ring
+use Rattle.ring_cluster.specs.Agendas.{IsForNoCopy}
 use Rattle.ring_cluster.specs.Plays.{agenda_of, takes_up, passes, AgendasAreEmpty}
 use Rattle.ring_names.specs.declared.numbers.MemberId.{MemberId}
 use Rattle.ring_names.specs.declared.reason.Reason.{Reason}
-use Rattle.ring_rules.specs.declared.event.Event.TheVariants.{Put, Take, TakeEnd, Gain, Pick, Start, Synced, Depth, Refresh, Mark, Erase}
+use Rattle.ring_rules.specs.declared.event.Event.TheVariants.{Put, Take, TakeEnd, Gain, Pick, Start, Synced, Depth, Refresh, Mark, Erase, SyncPut, SyncTake, SyncGain}
 use Rattle.ring_rules.specs.declared.phase.Phase.{Phase}
 use Rattle.ring_rules.specs.declared.phase.Phase.TheVariants.{Waiting, Up, Stopped}
 use Rattle.ring_rules.specs.Machine.{World, member_at, view_in, newest, right, runs, runs_phase, is_waiting}
 use Rattle.ring_rules.specs.Step.{size}
-use Rattle.ring_rules.specs.Event.{by_of, asked_of, event_of, id_of, of_member, is_stopped, is_passing, mark_refusal, erase_refusal, refused_at, refusal}
+use Rattle.ring_rules.specs.Event.{by_of, asked_of, event_of, id_of, of_member, is_stopped, up_refusal, is_passing, mark_refusal, erase_refusal, refused_at, refusal}
 use Rattle.ring_rules.specs.Idle.{NobodySteps, MarksNobody, ErasesNobody, IsIdle}
 use Rattle.ring_rules.specs.Work.{LeavesLess}
+use Rattle.ring_rules.proofs.events.Enabled.{up_later}
 use Rattle.ring_rules.proofs.events.Kinds.{step_by}
 use Rattle.ring_rules.proofs.walks.Ended.{runs_lt}
 use Rattle.ring_rules.proofs.work.Settling.{repair_less, none_left_is_idle, no_step, no_mark, someone}
@@ -198,6 +200,10 @@ module _ (c : Seen) (g : IsGoing c) (h : AllRest (state_of c)) where
   running : (x : ℕ) (later : Option Reason) → or_else (refuse_if (is_stopped (member_at w x).phase) reason.Stopped) later ≡ None → runs w x ≡ true
   running x later k = runs_from _ (none_of (is_stopped (member_at w x).phase) reason.Stopped later k).0
 
+  -- no step on a copy is enabled
+  copies_none : (x : ℕ) → up_refusal w x (Some reason.Waiting) ≡ None → ⊥
+  copies_none x k = let none : Some reason.Waiting ≡ None = up_later w x (Some reason.Waiting) k in cc
+
   none_at : (e : Event) (x : ℕ) → is_repair w e ≡ true → refusal w e ≡ None → id_of w (by_of e) ≡ Some x → refused_at w e x ≡ None → ⊥
   none_at (Put by) x is none there k = steps_none step.Put by x there (running x _ k) none
   none_at (Take by) x is none there k = steps_none step.Take by x there (running x _ k) none
@@ -232,6 +238,9 @@ module _ (c : Seen) (g : IsGoing c) (h : AllRest (state_of c)) where
       by_id : (o : Option ℕ) → id_of w origin ≡ o → of_member o (erase_refusal w x) ≡ None → ⊥
       by_id None e m = cc
       by_id (Some p) e m = ((rests_there c x g h r).1 (all_up c g h x r)).1.erases p (id_within w origin p e).1 m
+  none_at (SyncPut by) x is none there k = copies_none x k
+  none_at (SyncTake by) x is none there k = copies_none x k
+  none_at (SyncGain by) x is none there k = copies_none x k
   none_at e x is none there k = absurd (false≢true is)
 
   -- so none is left
@@ -262,13 +271,13 @@ all_empty c g h leave i name at = by_tasks (agenda_of c name) refl
     x : ℕ
     x = i + 1
 
-    by_reason : (t : Client) (ts : List Client) (r : Reason) → agenda_of c name ≡ t ∷ ts → asked_of t ≡ name → is_passing r ≡ true → refusal (state_of c) (event_of t) ≡ Some r → agenda_of c name ≡ []
-    by_reason t ts r e asks pass refused = by_phase (member_at (state_of c) x).phase refl
+    by_reason : (t : Client) (ts : List Client) (r : Reason) → agenda_of c name ≡ t ∷ ts → asked_of t ≡ name → IsForNoCopy t → is_passing r ≡ true → refusal (state_of c) (event_of t) ≡ Some r → agenda_of c name ≡ []
+    by_reason t ts r e asks none pass refused = by_phase (member_at (state_of c) x).phase refl
       where
         takes : (f : Phase) → (member_at (state_of c) x).phase ≡ f → takes_up f t ≡ true → ⊥
         takes f p k =
             let named = found_in c i g at.0 in
-            let may = passing_starts (state_of c) x t r (ap (id_of (state_of c)) (asks ∙ sym at.1) ∙ named) named (ap (λ q. takes_up q t) p ∙ k) pass refused in
+            let may = passing_starts (state_of c) x t r none (ap (id_of (state_of c)) (asks ∙ sym at.1) ∙ named) named (ap (λ q. takes_up q t) p ∙ k) pass refused in
             ((rests_there c x g h (ap runs_phase may.0)).1 may.0).0 may.1
 
         by_phase : (f : Phase) → (member_at (state_of c) x).phase ≡ f → agenda_of c name ≡ []
@@ -279,13 +288,13 @@ all_empty c g h leave i name at = by_tasks (agenda_of c name) refl
         by_phase Up p = absurd (takes Up p refl)
         by_phase Stopped p = absurd (takes Stopped p refl)
 
-    by_refusal : (t : Client) (ts : List Client) (o : Option Reason) → agenda_of c name ≡ t ∷ ts → asked_of t ≡ name → refusal (state_of c) (event_of t) ≡ o → passes o ≡ true → agenda_of c name ≡ []
-    by_refusal t ts None e asks refused pass = absurd (false≢true pass)
-    by_refusal t ts (Some r) e asks refused pass = by_reason t ts r e asks pass refused
+    by_refusal : (t : Client) (ts : List Client) (o : Option Reason) → agenda_of c name ≡ t ∷ ts → asked_of t ≡ name → IsForNoCopy t → refusal (state_of c) (event_of t) ≡ o → passes o ≡ true → agenda_of c name ≡ []
+    by_refusal t ts None e asks none refused pass = absurd (false≢true pass)
+    by_refusal t ts (Some r) e asks none refused pass = by_reason t ts r e asks none pass refused
 
     by_tasks : (ts : List Client) → agenda_of c name ≡ ts → agenda_of c name ≡ []
     by_tasks [] e = e
-    by_tasks (t ∷ ts) e = let left = leave i name at t ts e in by_refusal t ts (refusal (state_of c) (event_of t)) e left.0 refl left.1
+    by_tasks (t ∷ ts) e = let left = leave i name at t ts e in by_refusal t ts (refusal (state_of c) (event_of t)) e left.0 left.1 refl left.2
 
 -- the same, where only what is owed has changed since
 pub drained_empty : (c d : Seen) → IsGoing c → AllRest (state_of c) → SameButOwed c d × AllLeaveAgendas c → AgendasAreEmpty d

@@ -9,6 +9,7 @@ use Rattle.ring_rules.specs.Machine.{World, member_at}
 use Rattle.ring_rules.specs.Step.{size}
 use Rattle.ring_rules.specs.Event.{asked_of, event_of, id_of, is_asked, refusal}
 use Rattle.ring_rules.specs.Work.{total}
+use Rattle.ring_cluster.specs.Agendas.{IsForNoCopy}
 use Rattle.ring_cluster.specs.Seen.{Seen, state_of, IsGoing, SameButOwed, with_event}
 use Rattle.ring_cluster.specs.Backlog.{backlog_of}
 use Rattle.ring_cluster.specs.Plays.{agenda_of, answer_to, takes_up, is_due, IsDue, passes, LeavesAgenda, begun_by, SameGiven, HasBegun}
@@ -96,12 +97,12 @@ left_begun i name c d e g at left starts due = by_tasks (agenda_of c name) refl
     x : ℕ
     x = i + 1
 
-    by_reason : (t : Client) (ts : List Client) (o : Option Reason) → agenda_of c name ≡ t ∷ ts → asked_of t ≡ name → refusal w (event_of t) ≡ o → passes o ≡ true → length (begun_by name c.events) < length (begun_by name e.events)
-    by_reason t ts None a asks refused pass = absurd (false≢true pass)
-    by_reason t ts (Some r) a asks refused pass =
+    by_reason : (t : Client) (ts : List Client) (o : Option Reason) → agenda_of c name ≡ t ∷ ts → asked_of t ≡ name → IsForNoCopy t → refusal w (event_of t) ≡ o → passes o ≡ true → length (begun_by name c.events) < length (begun_by name e.events)
+    by_reason t ts None a asks none refused pass = absurd (false≢true pass)
+    by_reason t ts (Some r) a asks none refused pass =
         let named = found_in c i g at.0 in
         let takes : takes_up (member_at w x).phase t ≡ true = sym (ap (is_due (member_at w x).phase) a) ∙ due in
-        let may = passing_starts w x t r (ap (id_of w) (asks ∙ sym at.1) ∙ named) named takes pass refused in
+        let may = passing_starts w x t r none (ap (id_of w) (asks ∙ sym at.1) ∙ named) named takes pass refused in
         let same : state_of d ≡ w = ap state_of left.0.1 in
         let events : d.events ≡ c.events = ap (λ s. s.events) left.0.1 in
         let done : SameButOwed (with_event d (Start (member_at (state_of d) x).name)) e =
@@ -112,7 +113,7 @@ left_begun i name c d e g at left starts due = by_tasks (agenda_of c name) refl
 
     by_tasks : (ts : List Client) → agenda_of c name ≡ ts → length (begun_by name c.events) < length (begun_by name e.events)
     by_tasks [] a = absurd (false≢true (sym (ap (is_due (member_at w x).phase) a) ∙ due))
-    by_tasks (t ∷ ts) a = let l = left.1 t ts a in by_reason t ts (refusal w (event_of t)) a l.0 refl l.1
+    by_tasks (t ∷ ts) a = let l = left.1 t ts a in by_reason t ts (refusal w (event_of t)) a l.0 l.1 refl l.2
 
 pub empty_begun : (i : ℕ) (name : List ℕ) (c d : Seen) → agenda_of c name ≡ [] → HasBegun i name c d
 empty_begun i name c d e due = absurd (false≢true (sym (ap (is_due (member_at (state_of c) (i + 1)).phase) e) ∙ due))

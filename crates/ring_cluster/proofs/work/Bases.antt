@@ -12,6 +12,9 @@ use Rattle.ring_rules.specs.Rows.{Row, no_row, published_row, taken_row}
 use Rattle.ring_rules.specs.Machine.{Member, Link, World, row_at, numbers_at, member_at, link_at, view_in, is_waiting, oldest}
 use Rattle.ring_rules.specs.Step.{size, log_of, is_owned, published, taker, begun, stopped, with_member, opened_link, joiner, opening}
 use Rattle.ring_rules.specs.Event.{IsRun, last}
+use Rattle.ring_rules.specs.Act as act
+use Rattle.ring_rules.specs.Act.{Act}
+use Rattle.ring_rules.proofs.events.Parts as parts
 use Rattle.ring_rules.proofs.rings.Lists.{at_set}
 use Rattle.ring_rules.proofs.events.First.{first_row, first_size}
 use Rattle.ring_rules.proofs.events.Leaves.{member_leaves, come_member, with_opened}
@@ -107,6 +110,14 @@ opening_whole credit names = record {
   each = λ q le. record { ready = opening_phase credit names q; bases = λ p. ap (λ (r : Row). r.base) (first_row credit names q p) };
 }
 
+-- the same of acts
+acts_whole : (credit : CreditSpec) (names : List (List ℕ)) (acts : List Act) → AreOpeningNames names → act.IsRun (opening credit names) acts → AreWhole (length names) (act.last (opening credit names) acts)
+acts_whole credit names acts are r = parts.run_keeps (AreWhole (length names)) (part_whole (length names)) (opening credit names) acts (opening_good credit names are) r (opening_whole credit names)
+
+pub acts_bases : (credit : CreditSpec) (names : List (List ℕ)) (acts : List Act) → AreOpeningNames names → act.IsRun (opening credit names) acts → OpenersHaveNoBase names (act.last (opening credit names) acts)
+acts_bases credit names acts are r q p some le = ((acts_whole credit names acts are r).each q le).bases p
+
+-- and of events
 reached_whole : (credit : CreditSpec) (names : List (List ℕ)) (events : List Event) → AreOpeningNames names → IsRun (opening credit names) events → AreWhole (length names) (last (opening credit names) events)
 reached_whole credit names events are r = run_keeps (AreWhole (length names)) (part_whole (length names)) (opening credit names) events (opening_good credit names are) r (opening_whole credit names)
 

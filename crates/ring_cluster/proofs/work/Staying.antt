@@ -16,7 +16,7 @@ use Rattle.ring_rules.specs.declared.event.Event.{Event}
 use Rattle.ring_rules.specs.declared.event.Event.TheVariants.{Admit}
 use Rattle.ring_rules.specs.declared.kind.LinkStep.TheVariants as step
 use Rattle.ring_rules.specs.declared.kind.ViewChange.TheVariants as change
-use Rattle.ring_rules.specs.Kind.{Saying, Own, OfQueue, Kind, Says, Steps, Changes, Stops, Reads, Tells, kind_of}
+use Rattle.ring_rules.specs.Kind.{Saying, Own, OfQueue, Kind, Says, Steps, Copying, Changes, Stops, Reads, Tells, kind_of}
 use Rattle.ring_rules.specs.Machine.{Member, World, runs_phase, no_member, member_at, link_at, view_in, newest, oldest}
 use Rattle.ring_rules.specs.Step.{size, log_of, with_member, with_view, published, taker, begun, with_current, stopped, stop_at, moved_to, opened_link, joiner, come_to}
 use Rattle.ring_rules.specs.Event.{id_of, of_member, at_found, at_door, taken_by, refreshed, erased_view, synced_view, op_as, op_done, said, by_of, refused_at, done_as, done_at, refusal, effect, IsRun, last}
@@ -132,6 +132,7 @@ done_names w (Steps step.Take) x none = found w (member_at w x).current (taken_b
 done_names w (Steps step.TakeEnd) x none = found w (member_at w x).current _ (λ s. links_of w _ (with_member w x (with_current None (member_at w x))) refl (kept w x (with_current None (member_at w x)) refl refl))
 done_names w (Steps step.Gain) x none = found w (member_at w x).out _ (λ o. links_of w _ w refl (itself w))
 done_names w (Steps step.Pick) x none = found w (at_door w x) _ (λ s. kept w x (with_current (Some s) (member_at w x)) refl refl)
+done_names w (Copying s) x none = itself w
 done_names w (Changes (change.Mark dead)) x none = found w (id_of w dead) _ (λ d. view_names w x (marked (view_in w (newest w)) d))
 done_names w (Changes (change.Erase origin)) x none = found w (id_of w origin) _ (λ d. view_names w x (erased_view w d))
 done_names w (Changes (change.Admit name)) x none = absurd (none name refl)

@@ -8,7 +8,7 @@ use Rattle.group_view.specs.declared.link.LinkName.{LinkName}
 use Rattle.group_view.specs.View.{Group}
 use Rattle.group_view.specs.Change.{marked}
 use Rattle.ring_rules.specs.declared.kind.ViewChange.TheVariants as change
-use Rattle.ring_rules.specs.Kind.{Kind, Says, Steps, Changes, Stops, Reads, Tells, shown_kind}
+use Rattle.ring_rules.specs.Kind.{Kind, Says, Steps, Copying, Changes, Stops, Reads, Tells, shown_kind}
 use Rattle.registrar.specs.Registry.{Registry}
 use Rattle.registrar.specs.Handled.{with_view, with_stopped}
 use Rattle.activity.specs.declared.packet.Load.{Load}
@@ -48,6 +48,7 @@ alone_kept k i q ks a = cc
 pub same_kept : (k : Kind) (i : ℕ) (q : Parties) (ks : List Keeps) → is_alone (shown_kind k) ≡ false → ((name : List ℕ) → k ≡ Changes (change.Admit name) → ⊥) → all_kept_after k i q ks ≡ ks
 same_kept (Says s) i q ks a other = cc
 same_kept (Steps s) i q ks a other = cc
+same_kept (Copying s) i q ks a other = set-get_or ks i no_keeps
 same_kept (Changes (change.Admit name)) i q ks a other = absurd (other name refl)
 same_kept (Changes (change.Mark dead)) i q ks a other = set-get_or ks i no_keeps
 same_kept (Changes (change.Erase origin)) i q ks a other = set-get_or ks i no_keeps

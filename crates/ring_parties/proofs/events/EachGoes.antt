@@ -6,7 +6,7 @@ use Rattle.ring_names.specs.declared.numbers.CreditSpec.{CreditSpec}
 use Rattle.group_view.specs.declared.link.LinkName.{LinkName}
 use Rattle.ring_rules.specs.declared.kind.LinkStep.TheVariants as step
 use Rattle.ring_rules.specs.declared.kind.ViewChange.TheVariants as change
-use Rattle.ring_rules.specs.Kind.{Kind, Says, Steps, Changes, Stops, Reads, Tells}
+use Rattle.ring_rules.specs.Kind.{Kind, Says, Steps, Copying, Changes, Stops, Reads, Tells}
 use Rattle.ring_rules.specs.Machine.{World}
 use Rattle.ring_rules.specs.Step.{size}
 use Rattle.ring_rules.specs.Event.{id_of, refused_as, done_as}
@@ -47,6 +47,7 @@ each_goes credit w (Steps step.Take) keeps i d q q' replaced h h' r lt may kept 
 each_goes credit w (Steps step.TakeEnd) keeps i d q q' replaced h h' r lt may kept st a = end_goes credit w keeps i d q q' replaced h r lt st a
 each_goes credit w (Steps step.Gain) keeps i d q q' replaced h h' r lt may kept st a = gain_goes credit w keeps i d q q' replaced h r lt st a
 each_goes credit w (Steps step.Pick) keeps i d q q' replaced h h' r lt may kept st a = pick_goes credit w keeps i d q q' replaced h r lt may st a
+each_goes credit w (Copying s) keeps i d q q' replaced h h' r lt may kept st a = absurd a.1
 each_goes credit w (Changes (change.Mark dead)) keeps i d q q' replaced h h' r lt may kept st a = mark_between credit w keeps q q' i d dead replaced h r lt may.0 st may.1 a
 each_goes credit w (Changes (change.Erase origin)) keeps i d q q' replaced h h' r lt may kept st a = erase_between credit w keeps q q' i d origin replaced h r lt may.0 st may.1 a
 each_goes credit w (Changes (change.Admit name)) keeps i d q q' replaced h h' r lt may kept st a = admit_between credit w keeps q q' i d name replaced h h' r lt st may a

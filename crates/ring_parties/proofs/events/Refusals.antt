@@ -9,7 +9,7 @@ use Rattle.ring_names.specs.declared.reason.Reason.TheVariants as reason
 use Rattle.ring_rules.specs.declared.event.Event.TheVariants.{Take, TakeEnd}
 use Rattle.ring_rules.specs.declared.kind.LinkStep.{LinkStep}
 use Rattle.ring_rules.specs.declared.kind.LinkStep.TheVariants as step
-use Rattle.ring_rules.specs.Kind.{Kind, Says, Steps, Changes, Stops, Reads, Tells}
+use Rattle.ring_rules.specs.Kind.{Kind, Says, Steps, Copying, Changes, Stops, Reads, Tells}
 use Rattle.ring_rules.specs.declared.phase.Phase.{Phase}
 use Rattle.ring_rules.specs.declared.phase.Phase.TheVariants.{Waiting, Up, Stopped}
 use Rattle.ring_rules.specs.declared.phase.Ending.{Ending}
@@ -137,6 +137,7 @@ module _ (credit : CreditSpec) (w : World) (q : Parties) (x : ℕ) (h : IsLawful
   pub own_refuses : (keeps : Keeps) (k : Kind) → keeps ≡ keeps_of w x → IsOwn k x q → own_refused (newest_of q) keeps k (node_at q (x - 1)) ≡ refused_as w x k
   own_refuses keeps (Says s) kept a = says_refuses credit w q x keeps s kept some lt st
   own_refuses keeps (Steps s) kept a = step_refuses s a
+  own_refuses keeps (Copying s) kept a = ap (λ (g : Held). up_refused g (Some reason.Waiting)) same
   own_refuses keeps (Changes c) kept a = absurd a
   own_refuses keeps Stops kept a = ap (λ (g : Held). active_refused g None) same
   own_refuses keeps (Reads version) kept a = look_refuses credit w q x version h st some lt

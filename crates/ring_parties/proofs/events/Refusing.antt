@@ -216,6 +216,7 @@ client_refuses credit w q x keeps inner kept some lt st = by_client inner
     by_client (client.Pop by) = says (OfQueue (Does asking.Pop))
     by_client (client.Ack by at) = says (OfQueue (Does (asking.Ack at)))
     by_client (client.Requeue by at) = says (OfQueue (Does (asking.Requeue at)))
+    by_client (client.Sync by target) = ap (λ (k : Held). up_refused k (Some reason.Waiting)) (held_but_door w st.places x (node_at q (x - 1)) (st.stand.each x some lt))
     by_client (client.Stop by) = ap (λ (k : Held). active_refused k None) (held_but_door w st.places x (node_at q (x - 1)) (st.stand.each x some lt))
     by_client (client.Admit by name) = admit_refuses credit w q x name some lt st
 

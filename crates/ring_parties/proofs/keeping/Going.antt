@@ -14,7 +14,7 @@ use Rattle.group_view.specs.View.{Group}
 use Rattle.group_view.specs.Change.{marked}
 use Rattle.ring_rules.specs.declared.kind.LinkStep.TheVariants as step
 use Rattle.ring_rules.specs.declared.kind.ViewChange.TheVariants as change
-use Rattle.ring_rules.specs.Kind.{Saying, Own, OfQueue, Kind, Says, Steps, Changes, Stops, Reads, Tells}
+use Rattle.ring_rules.specs.Kind.{Saying, Own, OfQueue, Kind, Says, Steps, Copying, Changes, Stops, Reads, Tells}
 use Rattle.ring_rules.specs.declared.phase.Phase.{Phase}
 use Rattle.ring_rules.specs.declared.phase.Phase.TheVariants.{Waiting, Up, Stopped}
 use Rattle.ring_rules.specs.declared.phase.Ending.TheVariants.{Moved, Halted}
@@ -301,6 +301,7 @@ keeps_go credit w (Steps step.Gain) i q ks h later r lt st kept =
     same_stands w (done_as w (i + 1) (Steps step.Gain)) i ks kept lt (same_found (member_at w (i + 1)).out w (gain_on w) (λ o. same_members w (gain_on w o) refl))
 keeps_go credit w (Steps step.Pick) i q ks h later r lt st kept =
     same_stands w (done_as w (i + 1) (Steps step.Pick)) i ks kept lt (same_found (at_door w (i + 1)) w (λ s. current_is w (i + 1) (Some s)) (λ s. same_current w (i + 1) (Some s)))
+keeps_go credit w (Copying s) i q ks h later r lt st kept = same_stands w w i ks kept lt (same w)
 keeps_go credit w (Changes (change.Mark dead)) i q ks h later r lt st kept =
     same_stands w (done_as w (i + 1) (Changes (change.Mark dead))) i ks kept lt
     (same_found (id_of w dead) w (λ d. refreshed (with_view w (marked (view_in w (newest w)) d)) (i + 1) (newest w + 1)) (λ d. same_viewed w (i + 1) (marked (view_in w (newest w)) d)))

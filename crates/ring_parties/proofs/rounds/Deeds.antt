@@ -3,7 +3,7 @@ use Rattle.std.proofs.Common.{◌≡◌, ◌≢◌, ⊎_elim, ℕ, zero, suc, �
 use Rattle.std.specs.List.{flat_map, filter}
 use Rattle.std.proofs.lemmas.Bool.{false≢true, cases_eq}
 use Rattle.ring_rules.specs.declared.kind.LinkStep.TheVariants as step
-use Rattle.ring_rules.specs.Kind.{Kind, Says, Steps, Changes, Stops, Reads, Tells, kind_of}
+use Rattle.ring_rules.specs.Kind.{Kind, Says, Steps, Copying, Changes, Stops, Reads, Tells, kind_of}
 use Rattle.gm_member.specs.Held.{at_some}
 use Rattle.ring_parties.specs.Acting.{due_of}
 use Rattle.ring_parties.specs.RoundActs.{Stamped, Act, push, pop, acts_at, timed, puts, takes}
@@ -117,6 +117,7 @@ did_stamped s Stops t d a b (stamp, ok, after, is, there, back) = (by_out a.out 
     by_out (Some k) e = push_stamped t k s _ d.there e after
 did_stamped s (Steps step.Pick) t d a b (i, inside, first, ok, is, none) = (none_stamped t s d.there none.0, none_stamped t s d.back none.1)
 did_stamped s (Tells code inner) t d a b (ok, is, none) = (none_stamped t s d.there none.0, none_stamped t s d.back none.1)
+did_stamped s (Copying c) t d a b did = absurd did
 did_stamped s (Changes c) t d a b did = absurd did
 did_stamped s (Reads version) t d a b did = absurd did
 
@@ -134,6 +135,7 @@ did_out (Steps step.Gain) t d a b (k, stamp, g, on, ok, later, is, there, back) 
 did_out Stops t d a b (stamp, ok, after, is, there, back) = ap (λ (m : Seat). m.out) is
 did_out (Steps step.Pick) t d a b (i, inside, first, ok, is, none) = ap (λ (m : Seat). m.out) is
 did_out (Tells code inner) t d a b (ok, is, none) = ap (λ (m : Seat). m.out) is
+did_out (Copying c) t d a b did = absurd did
 did_out (Changes c) t d a b did = absurd did
 did_out (Reads version) t d a b did = absurd did
 
@@ -159,6 +161,7 @@ did_sends s Stops t d a b ne (stamp, ok, after, is, there, back) = (by_out a.out
     by_out (Some k) apart e = push_apart t k s _ d.there e (other_place s k (Some k) apart refl)
 did_sends s (Steps step.Pick) t d a b ne (i, inside, first, ok, is, none) = (none_puts t s d.there none.0, none_takes t s d.back none.1)
 did_sends s (Tells code inner) t d a b ne (ok, is, none) = (none_puts t s d.there none.0, none_takes t s d.back none.1)
+did_sends s (Copying c) t d a b ne did = absurd did
 did_sends s (Changes c) t d a b ne did = absurd did
 did_sends s (Reads version) t d a b ne did = absurd did
 
@@ -182,6 +185,7 @@ did_apart s (Steps step.Gain) t d a b h (k, stamp, g, on, ok, later, is, there, 
 did_apart s Stops t d a b h (stamp, ok, after, is, there, back) = subst (IsApart s) (sym is) h
 did_apart s (Steps step.Pick) t d a b h (i, inside, first, ok, is, none) = subst (IsApart s) (sym is) ((λ (e : Some (get_or a.door i 0) ≡ Some s). but_at s i a.door h.1 inside (let same : get_or a.door i 0 ≡ s = cc in same)), but_append s (take i a.door) (drop (i + 1) a.door) (but_take s i a.door h.1) (but_drop s (i + 1) a.door h.1))
 did_apart s (Tells code inner) t d a b h (ok, is, none) = subst (IsApart s) (sym is) h
+did_apart s (Copying c) t d a b h did = absurd did
 did_apart s (Changes c) t d a b h did = absurd did
 did_apart s (Reads version) t d a b h did = absurd did
 
@@ -207,6 +211,7 @@ did_takes s Stops t d a b h (stamp, ok, after, is, there, back) = (by_out a.out 
     by_out (Some k) e = push_takes t k s _ d.there e
 did_takes s (Steps step.Pick) t d a b h (i, inside, first, ok, is, none) = (none_takes t s d.there none.0, none_puts t s d.back none.1)
 did_takes s (Tells code inner) t d a b h (ok, is, none) = (none_takes t s d.there none.0, none_puts t s d.back none.1)
+did_takes s (Copying c) t d a b h did = absurd did
 did_takes s (Changes c) t d a b h did = absurd did
 did_takes s (Reads version) t d a b h did = absurd did
 

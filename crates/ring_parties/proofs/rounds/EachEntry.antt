@@ -10,7 +10,7 @@ use Rattle.ring_rules.specs.declared.kind.LinkStep.TheVariants as step
 use Rattle.ring_rules.specs.declared.kind.ViewChange.TheVariants as change
 use Rattle.ring_rules.specs.declared.phase.Phase.{Phase}
 use Rattle.ring_rules.specs.declared.phase.Phase.TheVariants.{Waiting, Up, Stopped}
-use Rattle.ring_rules.specs.Kind.{Kind, Says, Steps, Changes, Stops, Reads, Tells, kind_of}
+use Rattle.ring_rules.specs.Kind.{Kind, Says, Steps, Copying, Changes, Stops, Reads, Tells, kind_of}
 use Rattle.ring_rules.specs.Refusal.{refuse_if, or_else}
 use Rattle.ring_rules.specs.Machine.{World, member_at, is_waiting}
 use Rattle.ring_rules.specs.Event.{is_stopped, by_of, id_of, event_of, is_told, up_refusal, saying_refusal, admit_refusal, doing_as, refused_as, done_as, refusal, effect}
@@ -63,6 +63,7 @@ module _ (credit : CreditSpec) (w : World) (post : List ℕ) (x t : ℕ) (d : De
       (ap (up_refused (a.seats x).held) (refused_same w x (a.seats x).held (a.seats x).keeps (speaks_there credit w post x t d m a b turn) s)
       ∙ ap (λ (g : Held). up_refused g (saying_refusal w x s)) me.held))
       ∙ e
+  told_so code (Copying s) e = ap (λ (g : Held). is_told code (up_refused g (Some reason.Waiting))) (sym me.held) ∙ e
   told_so code Stops e = ap (λ (g : Held). is_told code (active_refused g None)) (sym me.held) ∙ e
   told_so code (Changes (change.Admit name)) e = up_told w x code (admit_refusal w name) (ap (λ (g : Held). is_told code (up_refused g None)) (sym me.held) ∙ e)
   told_so code kind e = absurd (false≢true e)
@@ -89,6 +90,7 @@ module _ (credit : CreditSpec) (w : World) (post : List ℕ) (x t : ℕ) (d : De
   each_step (Steps step.Pick) later (i, inside, first, ok, is, none) = pick_step credit w post x t d m a b turn i first ok is none
   each_step Stops later (stamp, ok, after, is, there, back) = stop_step credit w post x t d m a b turn stamp ok is there back
   each_step (Tells code inner) later (ok, is, none) = tells_step code inner ok is none
+  each_step (Copying s) later did = absurd did
   each_step (Changes c) later did = absurd did
   each_step (Reads version) later did = absurd did
 

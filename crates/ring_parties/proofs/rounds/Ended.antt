@@ -9,7 +9,7 @@ use Rattle.group_view.proofs.Rings.{is_in-append, nat_eq-same, nat_eq-not, disti
 use Rattle.ring_rules.specs.declared.phase.Ending.{Ending}
 use Rattle.ring_rules.specs.declared.kind.LinkStep.TheVariants as step
 use Rattle.ring_rules.specs.Compact.{passed}
-use Rattle.ring_rules.specs.Kind.{Kind, Says, Steps, Changes, Stops, Reads, Tells, kind_of}
+use Rattle.ring_rules.specs.Kind.{Kind, Says, Steps, Copying, Changes, Stops, Reads, Tells, kind_of}
 use Rattle.ring_rules.specs.Machine.{World, Packet, Sending, member_at, link_at}
 use Rattle.ring_rules.specs.OpenLinks.{is_place}
 use Rattle.ring_rules.proofs.walks.OpenWalk.{place_is}
@@ -97,6 +97,7 @@ did_once s Stops t d a b h (stamp, ok, after, is, there, back) = subst (HasOnce 
 did_once s (Steps step.Pick) t d a b h (i, inside, first, ok, is, none) = subst (HasOnce s) (sym is)
     ((λ (e : Some (get_or a.door i 0) ≡ Some s). once_gone s i a.door h.1 inside (let same : get_or a.door i 0 ≡ s = cc in same)), once_left s i a.door h.1 inside)
 did_once s (Tells code inner) t d a b h (ok, is, none) = subst (HasOnce s) (sym is) h
+did_once s (Copying c) t d a b h did = absurd did
 did_once s (Changes c) t d a b h did = absurd did
 did_once s (Reads version) t d a b h did = absurd did
 
@@ -127,6 +128,7 @@ did_end s Stops t d a b h (stamp, ok, after, is, there, back) = inl (no_end s t 
     by_out (Some k) e = push_takes t k s _ d.there e
 did_end s (Steps step.Pick) t d a b h (i, inside, first, ok, is, none) = inl (no_end s t d (none_takes t s d.there none.0))
 did_end s (Tells code inner) t d a b h (ok, is, none) = inl (no_end s t d (none_takes t s d.there none.0))
+did_end s (Copying c) t d a b h did = absurd did
 did_end s (Changes c) t d a b h did = absurd did
 did_end s (Reads version) t d a b h did = absurd did
 

@@ -3,7 +3,7 @@ use Rattle.std.proofs.Common.{◌≡◌, ℕ, Bool, true, false, cond, List, [],
 use Rattle.std.specs.Prelude.{option_map}
 use Rattle.ring_rules.specs.declared.event.Event.{Event}
 use Rattle.ring_rules.specs.declared.kind.LinkStep.TheVariants as step
-use Rattle.ring_rules.specs.Kind.{Kind, Says, Steps, Changes, Stops, Reads, Tells, kind_of}
+use Rattle.ring_rules.specs.Kind.{Kind, Says, Steps, Copying, Changes, Stops, Reads, Tells, kind_of}
 use Rattle.ring_rules.specs.Machine.{is_waiting}
 use Rattle.gm_member.specs.Packets.{PacketById}
 use Rattle.gm_member.specs.Held.{Held, Incoming, at_some, took_held, began_from, took_from, picked_held, picked_at, first_at_door}
@@ -40,6 +40,7 @@ did_name (Steps step.Gain) t d a b (k, stamp, g, on, ok, later, is, there, back)
 did_name Stops t d a b (stamp, ok, after, is, there, back) = ap (λ (c : Seat). c.held.name) is
 did_name (Steps step.Pick) t d a b (i, inside, first, ok, is, none) = ap (λ (c : Seat). c.held.name) is ∙ picked_name a.held
 did_name (Tells code inner) t d a b (ok, is, none) = ap (λ (c : Seat). c.held.name) is
+did_name (Copying c) t d a b did = absurd did
 did_name (Changes c) t d a b did = absurd did
 did_name (Reads version) t d a b did = absurd did
 

@@ -22,7 +22,7 @@ use Rattle.ring_rules.specs.declared.event.Event.{Event}
 use Rattle.ring_rules.specs.declared.event.Event.TheVariants as event
 use Rattle.ring_rules.specs.declared.kind.Asking.TheVariants as asking
 use Rattle.ring_rules.specs.declared.kind.Kind.TheVariants as shown
-use Rattle.ring_rules.specs.Kind.{Kind, Says, Steps, Changes, Stops, Reads, Tells, Saying, Own, OfQueue, QueueSaying, Publishes, Does, kind_of, shown_kind}
+use Rattle.ring_rules.specs.Kind.{Kind, Says, Steps, Copying, Changes, Stops, Reads, Tells, Saying, Own, OfQueue, QueueSaying, Publishes, Does, kind_of, shown_kind}
 use Rattle.ring_rules.specs.Event.{by_of, asked_of, event_of, asked_op, queue_message, is_asked, is_told, is_passing}
 use Rattle.gm_member.specs.Packets.{places}
 use Rattle.gm_member.specs.Held.{Held, published_held, up_refused}
@@ -140,6 +140,7 @@ shown_saying k e = cc
 pub shown_other : (k : Kind) → (shown_kind k ≡ shown.Says → ⊥) → is_saying k ≡ false
 shown_other (Says s) ne = absurd (ne refl)
 shown_other (Steps s) ne = refl
+shown_other (Copying s) ne = refl
 shown_other (Changes c) ne = refl
 shown_other Stops ne = refl
 shown_other (Reads version) ne = refl
@@ -206,6 +207,7 @@ asked_client (client.Get by) = refl
 asked_client (client.Pop by) = refl
 asked_client (client.Ack by at) = refl
 asked_client (client.Requeue by at) = refl
+asked_client (client.Sync by target) = refl
 asked_client (client.Stop by) = refl
 asked_client (client.Admit by name) = refl
 
@@ -216,6 +218,7 @@ answered_client (client.Get by) = refl
 answered_client (client.Pop by) = refl
 answered_client (client.Ack by at) = refl
 answered_client (client.Requeue by at) = refl
+answered_client (client.Sync by target) = refl
 answered_client (client.Stop by) = refl
 answered_client (client.Admit by name) = refl
 
@@ -226,6 +229,7 @@ itself_client (client.Get by) = refl
 itself_client (client.Pop by) = refl
 itself_client (client.Ack by at) = refl
 itself_client (client.Requeue by at) = refl
+itself_client (client.Sync by target) = refl
 itself_client (client.Stop by) = refl
 itself_client (client.Admit by name) = refl
 

@@ -16,7 +16,7 @@ use Rattle.ring_rules.specs.Machine.{Waiting, Up, Halted, World, row_at, member_
 use Rattle.ring_rules.specs.Step.{size, put_on, gain_on, publish_at, take_from, begin_from, come_to, copied_at, current_is, leave_link, stop_at, end_out, with_view}
 use Rattle.ring_rules.specs.declared.kind.LinkStep.TheVariants as step
 use Rattle.ring_rules.specs.declared.kind.ViewChange.TheVariants as change
-use Rattle.ring_rules.specs.Event.{Event, Saying, Own, OfQueue, Kind, Says, Steps, Changes, Stops, Reads, Tells, kind_of, MayPublish, op_as, op_refusal, op_done, queue_message, saying_refusal, said, synced_refusal, missing_refusal, synced_view, is_stopped, id_of, of_member, on_link, put_refusal, take_refusal, end_refusal, gain_refusal, version_refusal, refresh_refusal, at_door, mark_refusal, erase_refusal, not_retired, erased_view, admit_refusal, refreshed, by_of, is_for_up_kind, phase_refusal, further_as, doing_as, refused_as, refused_at, refusal, at_found, taken_by, done_as, done_at, effect}
+use Rattle.ring_rules.specs.Event.{Event, Saying, Own, OfQueue, Kind, Says, Steps, Copying, Changes, Stops, Reads, Tells, kind_of, MayPublish, op_as, op_refusal, op_done, queue_message, saying_refusal, said, synced_refusal, missing_refusal, synced_view, is_stopped, id_of, of_member, on_link, put_refusal, take_refusal, end_refusal, gain_refusal, version_refusal, refresh_refusal, at_door, mark_refusal, erase_refusal, not_retired, erased_view, admit_refusal, refreshed, by_of, is_for_up_kind, phase_refusal, further_as, doing_as, refused_as, refused_at, refusal, at_found, taken_by, done_as, done_at, effect}
 use Rattle.ring_rules.specs.Act.{Deed, OfKind, Copies, Act, deed_refusal, deed_done, DeedIs, refusal as act_refusal, effect as act_effect}
 use Rattle.ring_rules.proofs.events.WhatRefuses.{MayTake, MayBegin, MayLook, MayMark, MayErase, MaySync}
 use Rattle.ring_rules.proofs.events.Refusals.{none_of, refuse_none, id_within, not_less, not_false, up_or_waits}
@@ -157,6 +157,7 @@ each_up P w (Steps step.Pick) x c u h =
     let a = none_of (is_some (member_at w x).current) reason.HasCurrentLink _ h in
     at_link P w reason.NoLinkAtDoor (λ s. version_refusal (link_at w s).opened (member_at w x).version) (λ s. current_is w x (Some s)) (at_door w x) a.1
     (λ s e k. c.picks x s u (none_there (member_at w x).current a.0) e (not_less (member_at w x).version (link_at w s).opened _ k))
+each_up P w (Copying s) x c u h = c.refuses
 each_up P w (Changes (change.Mark dead)) x c u h = at_named P w dead (mark_refusal w x) (λ d. refreshed (with_view w (marked (view_in w (newest w)) d)) x (newest w + 1)) h
     (λ d some lt k. c.marks x d u (may_mark w x d u.lt u.up k))
 each_up P w (Changes (change.Erase origin)) x c u h = at_named P w origin (erase_refusal w x) (λ d. refreshed (with_view w (erased_view w d)) x (newest w + 1)) h
@@ -187,6 +188,7 @@ each_at : (P : World → Type 0) (w : World) (k : Kind) (x : ℕ) → IsGood w �
 each_at P w (Tells code inner) x g c some lt h = c.refuses
 each_at P w (Says s) x g c some lt h = each_done P w (Says s) x g c some lt h
 each_at P w (Steps s) x g c some lt h = each_done P w (Steps s) x g c some lt h
+each_at P w (Copying s) x g c some lt h = c.refuses
 each_at P w (Changes v) x g c some lt h = each_done P w (Changes v) x g c some lt h
 each_at P w Stops x g c some lt h = each_done P w Stops x g c some lt h
 each_at P w (Reads version) x g c some lt h = each_done P w (Reads version) x g c some lt h

@@ -10,7 +10,7 @@ use Rattle.ring_rules.specs.declared.kind.LinkStep.TheVariants as step
 use Rattle.ring_rules.specs.declared.kind.ViewChange.TheVariants as change
 use Rattle.ring_rules.specs.declared.kind.Kind.{Kind as ShownKind}
 use Rattle.ring_rules.specs.declared.kind.Kind.TheVariants as shown
-use Rattle.ring_rules.specs.Kind.{Saying, Own, Kind, Says, Steps, Changes, Stops, Reads, Tells, kind_of, own_body_of, shown_kind, step_event}
+use Rattle.ring_rules.specs.Kind.{Saying, Own, Kind, Says, Steps, Copying, Changes, Stops, Reads, Tells, kind_of, own_body_of, shown_kind, step_event}
 use Rattle.ring_rules.specs.Event.{event_of, asked_of, by_of}
 
 -- ---- what a client asks
@@ -63,6 +63,7 @@ own_says k body h = cc
 abbrev pub IsOf : ShownKind → Kind → Type 0
 IsOf shown.Says k = (s : Saying) × (k ≡ Says s)
 IsOf (shown.Links s) k = k ≡ Steps s
+IsOf (shown.Copies s) k = k ≡ Copying s
 IsOf (shown.Changes c) k = k ≡ Changes c
 IsOf shown.Stops k = k ≡ Stops
 IsOf (shown.Reads version) k = k ≡ Reads version
@@ -71,6 +72,7 @@ IsOf shown.Tells k = (code : ℕ) × (inner : Client) × (k ≡ Tells code inner
 is_of : (k : Kind) → IsOf (shown_kind k) k
 is_of (Says s) = (s, refl)
 is_of (Steps s) = refl
+is_of (Copying s) = refl
 is_of (Changes c) = refl
 is_of Stops = refl
 is_of (Reads version) = refl

@@ -12,6 +12,7 @@ use Rattle.group_view.specs.Change.{AreOpeningNames}
 use Rattle.group_view.proofs.Groups.{small_version}
 use Rattle.group_view.proofs.Rings.{nat_eq-is}
 use Rattle.ring_rules.specs.Bounded.{IsBounded}
+use Rattle.ring_rules.specs.Refusal.{refuse_if}
 use Rattle.ring_rules.specs.Event.{Event, Refresh, Refuse, IsRun, refusal, effect, id_of, of_member, asked_of, event_of, is_passing, is_told, doing_refusal, refused_at, refresh_refusal}
 use Rattle.ring_rules.specs.declared.event.Client.{Client}
 use Rattle.ring_rules.specs.Machine.{World, newest, view_in, runs_phase}
@@ -76,20 +77,22 @@ refresh_bounded w by v g r = by_id (id_of w by) r
         let u = up_none w x (refresh_refusal w x v) h in
         (omega (arith, version_some w x g (ap runs_phase u.0), refresh_later w x v u.1), version_bounded w v g (refresh_upto w x v u.1))
 
-refuse_bounded : (w : World) (code : ℕ) (inner : Client) → refusal w (Refuse code inner) ≡ None → (6 ≤ code) × (code ≤ 44)
-refuse_bounded w code inner r = by_id (id_of w (asked_of inner)) r
+-- what a client is told
+pub told_bounded : (code : ℕ) (o : Option Reason) → refuse_if (not (is_told code o)) reason.NotRefused ≡ None → (6 ≤ code) × (code ≤ 44)
+told_bounded code o h = told o (not_false (is_told code o) (refuse_none (not (is_told code o)) reason.NotRefused h))
   where
     told : (o : Option Reason) → is_told code o ≡ true → (6 ≤ code) × (code ≤ 44)
     told None h = cc
     told (Some r) h = subst (λ n. (6 ≤ n) × (n ≤ 44)) (nat_eq-is (code_of r) code (and_parts (nat_eq (code_of r) code) (not (is_passing r)) h).0) (code_bounded r)
 
+refuse_bounded : (w : World) (code : ℕ) (inner : Client) → refusal w (Refuse code inner) ≡ None → (6 ≤ code) × (code ≤ 44)
+refuse_bounded w code inner r = by_id (id_of w (asked_of inner)) r
+  where
     by_id : (o : Option ℕ) → of_member o (refused_at w (Refuse code inner)) ≡ None → (6 ≤ code) × (code ≤ 44)
     by_id None h = cc
-    by_id (Some x) h =
-        let o = doing_refusal w (event_of inner) x in
-        told o (not_false (is_told code o) (refuse_none (not (is_told code o)) reason.NotRefused h))
+    by_id (Some x) h = told_bounded code (doing_refusal w (event_of inner) x) h
 
-event_bounded : (w : World) (e : Event) → IsGood w → refusal w e ≡ None → IsBounded e
+pub event_bounded : (w : World) (e : Event) → IsGood w → refusal w e ≡ None → IsBounded e
 event_bounded w (Refresh by version) g r = refresh_bounded w by version g r
 event_bounded w (Refuse code inner) g r = refuse_bounded w code inner r
 event_bounded w e g r = tt

@@ -17,7 +17,7 @@ use Rattle.ring_rules.specs.Machine.{Phase, Waiting, Up, Stopped, Moved, Halted,
 use Rattle.ring_rules.specs.Step.{size, log_of, taker, begun, with_current, finished, popped, stopped, ended, with_member, with_link, with_view, publish_at, put_on, gain_on, published, current_is, leave_link, stop_at, look_at, moved_to, opened_link, open_to, joiner, come_to}
 use Rattle.ring_rules.specs.declared.kind.LinkStep.TheVariants as step
 use Rattle.ring_rules.specs.declared.kind.ViewChange.TheVariants as change
-use Rattle.ring_rules.specs.Event.{Event, Saying, Own, OfQueue, Kind, Says, Steps, Changes, Stops, Reads, Tells, kind_of, op_as, op_refusal, op_done, saying_refusal, said, synced_view, id_of, of_member, by_of, refused_as, refused_at, refreshed, erased_view, at_found, at_door, taken_by, done_as, done_at, refusal, effect, IsRun, last}
+use Rattle.ring_rules.specs.Event.{Event, Saying, Own, OfQueue, Kind, Says, Steps, Copying, Changes, Stops, Reads, Tells, kind_of, op_as, op_refusal, op_done, saying_refusal, said, synced_view, id_of, of_member, by_of, refused_as, refused_at, refreshed, erased_view, at_found, at_door, taken_by, done_as, done_at, refusal, effect, IsRun, last}
 use Rattle.ring_rules.specs.Published.{told_of, told_of_saying, one_of, published_as, published_by, published_in}
 use Rattle.ring_rules.proofs.events.Names.{same_bytes, own_bytes}
 use Rattle.ring_rules.proofs.events.Enabled.{up_none}
@@ -114,6 +114,7 @@ kind_step w x (Steps step.TakeEnd) =
     keeps_all (found_keeps w (member_at w x).current (leave_link w x) (λ s. link_keeps w (current_is w x None) s (finished (link_at w s)) (write_keeps w x (with_current None (member_at w x)) refl refl refl refl))) (λ _ _. refl)
 kind_step w x (Steps step.Gain) = keeps_all (found_keeps w (member_at w x).out (gain_on w) (λ o. link_keeps w w o _ (all_keep w))) (λ _ _. refl)
 kind_step w x (Steps step.Pick) = keeps_all (found_keeps w (at_door w x) _ (λ s. write_keeps w x (with_current (Some s) (member_at w x)) refl refl refl refl)) (λ _ _. refl)
+kind_step w x (Copying s) = keeps_all (all_keep w) (λ _ _. refl)
 kind_step w x (Changes (change.Mark dead)) = keeps_all (found_keeps w (id_of w dead) _ (λ d. view_keeps w x (marked (view_in w (newest w)) d))) (λ _ _. refl)
 kind_step w x (Changes (change.Erase origin)) = keeps_all (found_keeps w (id_of w origin) _ (λ d. view_keeps w x (erased_view w d))) (λ _ _. refl)
 kind_step w x (Changes (change.Admit name)) =

@@ -88,7 +88,7 @@ module _ (credit : CreditSpec) (names : List (List ℕ)) (are : AreOpeningNames 
           let s : Settles (effect w q.0) = more q.0 q.1.0 q.1.1 in
           record { steps = q.0 ∷ s.steps; repairs = (q.1.0, (q.1.1, s.repairs)); quiet = s.quiet }
 
-  ring_settles : (w : World) (h : IsReached w) → length h.acts + total w < greatest → Settles w
+  pub ring_settles : (w : World) (h : IsReached w) → length h.acts + total w < greatest → Settles w
   ring_settles w h few = settles_within (total w + 1) w (omega arith) h (omega (arith, few))
 
   -- every state of every run of events

@@ -14,7 +14,7 @@ use Rattle.ring_rules.specs.declared.phase.Phase.TheVariants.{Waiting, Up, Stopp
 use Rattle.ring_rules.specs.Machine.{World, member_at, view_in, newest, ring, runs, runs_phase, link_at, oldest, Up, Waiting}
 use Rattle.ring_rules.specs.Step.{size, current_is, gain_on, leave_link, put_on, with_view, begun, taker}
 use Rattle.ring_rules.specs.declared.event.Event.{Event}
-use Rattle.ring_rules.specs.declared.event.Event.TheVariants.{Put, Take, TakeEnd, Gain, Depth, Start, Mark, Erase, Synced, Refresh, Pick}
+use Rattle.ring_rules.specs.declared.event.Event.TheVariants.{Put, Take, TakeEnd, Gain, Depth, Start, Mark, Erase, Synced, SyncPut, SyncTake, SyncGain, Refresh, Pick}
 use Rattle.ring_rules.specs.Event.{id_of, of_member, on_link, is_stopped, running_refusal, up_refusal, put_refusal, take_refusal, end_refusal, gain_refusal, pick_refusal, mark_refusal, erase_refusal, synced_refusal, refresh_refusal, refusal, effect, at_door, at_found, by_of, done_at, erased_view, refused_at, taken_by, version_refusal, refreshed}
 use Rattle.ring_rules.specs.Idle.{HasNoStep, HasNothingToDo, IsIdle}
 use Rattle.ring_rules.proofs.rings.Rounds.{nat_eq-is, nat_eq-same}
@@ -104,6 +104,9 @@ done_lowers w (Pick by) x f is at some lt h =
     let a = none_of (is_some (member_at w x).current) reason.HasCurrentLink _ u.1 in
     at_link (LowersThen w) w reason.NoLinkAtDoor (λ s. version_refusal (link_at w s).opened (member_at w x).version) (λ s. current_is w x (Some s)) (at_door w x) a.1
     (λ s door k. pick_falls w x s f (up_runs w x (record { some = some; lt = lt; up = u.0 })) (none_there (member_at w x).current a.0) door (not_less (member_at w x).version (link_at w s).opened _ k))
+done_lowers w (SyncPut by) x f is at some lt h = let u = up_none w x _ h in let none : Some reason.Waiting ≡ None = u.1 in cc
+done_lowers w (SyncTake by) x f is at some lt h = let u = up_none w x _ h in let none : Some reason.Waiting ≡ None = u.1 in cc
+done_lowers w (SyncGain by) x f is at some lt h = let u = up_none w x _ h in let none : Some reason.Waiting ≡ None = u.1 in cc
 done_lowers w e x f is at some lt h = absurd (false≢true is)
 
 pub repair_lowers : (w : World) (e : Event) → IsFit w → is_repair w e ≡ true → refusal w e ≡ None → Lowers w (effect w e)

@@ -1,5 +1,5 @@
 -- What the laws say of each state that a World holds.
-use Rattle.std.proofs.Common.{◌≡◌, ℕ, Bool, ◌<◌, ◌≤◌, List, [], ◌∷◌, ◌++◌, length, ◌+◌, Option, Some, None, refl, sym, subst}
+use Rattle.std.proofs.Common.{◌≡◌, ℕ, Bool, ◌<◌, ◌≤◌, List, [], ◌∷◌, ◌++◌, length, map, ap, ◌∙◌, ◌+◌, Option, Some, None, refl, sym, subst}
 use Rattle.std.specs.Coded.{le_prop}
 use Rattle.std.proofs.Math.Logic.{∥∥₁_elim}
 use Rattle.ring_rules.specs.Machine.{Packet, World, member_at, link_at, row_at}
@@ -10,13 +10,20 @@ use Rattle.ring_rules.specs.Lawful.{PacketsAreWithin}
 use Rattle.ring_rules.specs.Laws.{IsLawful}
 use Rattle.ring_rules.specs.LinksStand.{LinksStand, longer_walk}
 use Rattle.ring_rules.specs.OpenLinks.{the_walk, walk_named, FallsFrom, NeverRises}
-use Rattle.ring_rules.specs.Event.{id_of, refusal, effect, last, refusals_of}
+use Rattle.ring_rules.specs.Event.{id_of, refusals_of}
 use Rattle.ring_rules.specs.declared.event.Event.{Event}
-use Rattle.ring_world.specs.Reached.{WorldSeen, IsReachedIn, IsRunning, state_of, seen_of}
+use Rattle.ring_world.specs.Reached.{WorldSeen, IsReachedIn, IsRunning, with_copies, state_of, seen_of}
 use Rattle.ring_world.specs.declared.world.World.TheInside.{Inside}
-use Rattle.ring_rules.proofs.runs.OfEvents.{every_state_lawful, run_credited, reached_named}
+use Rattle.ring_rules.proofs.runs.LinkCredit.{run_credited}
+use Rattle.ring_rules.proofs.invariants.Named.{AreNamed, reached_named}
+use Rattle.ring_copies.specs.Copies.{CopyWorld}
+use Rattle.ring_copies.specs.Events.{sort_of}
+use Rattle.ring_copies.specs.Runs.{refusal, effect, without_copies}
+use Rattle.ring_copies.specs.Laws.{IsLawfulWithCopies, CopiesKeepCredit}
+use Rattle.ring_copies.proofs.Seen.{RingRuns}
+use Rattle.ring_copies.proofs.Runs.{lawful_with_copies}
 use Rattle.ring_world.proofs.code.Agreed.{agreed_from}
-use Rattle.ring_world.proofs.code.Running.{reached_more}
+use Rattle.ring_world.proofs.code.Running.{reached_more, reached_runs, reached_ring}
 use Rattle.ring_rules.proofs.events.Refusals.{id_within}
 use Rattle.ring_rules.proofs.invariants.Named.{named_found}
 use Rattle.std.proofs.Math.Nat.{ℕ_set}
@@ -33,9 +40,13 @@ never_rises : (seen : WorldSeen) (n : ℕ) → ∥ IsReachedIn seen n ∥₁ →
 never_rises seen n r [] f = tt
 never_rises seen n r (x ∷ xs) f = falls_from seen n r x xs f
 
+-- all of them
+reached_laws : (seen : WorldSeen) (n : ℕ) (r : IsReachedIn seen n) → IsLawfulWithCopies r.credit.initial (with_copies seen)
+reached_laws seen n r = subst (IsLawfulWithCopies r.credit.initial) (sym r.is) (lawful_with_copies r.credit r.names r.are (map sort_of r.events) r.run)
+
 reached_falls : (seen : WorldSeen) (n p : ℕ) → 1 ≤ p → p < size seen.ring → IsReachedIn seen n → NeverRises (the_walk seen.ring p)
 reached_falls seen n p some within r =
-    subst (λ v. NeverRises (the_walk v p)) (sym r.is) ((every_state_lawful r.credit r.names r.events r.are r.run).walks p some (subst (λ v. p < size v) r.is within))
+    (reached_laws seen n r).ring.walks p some within
 
 pub named_falls : (a : Inside) (name walk : List ℕ) → IsRunning a → walk ≡ walk_named (state_of a) (id_of (state_of a) name) → NeverRises walk
 named_falls a name walk r e = subst NeverRises (sym e) (by_id (id_of (state_of a) name) refl)
@@ -67,8 +78,7 @@ never_prop : IsProp ⊥
 never_prop a b = absurd a
 
 reached_hears : (seen : WorldSeen) (n q p : ℕ) → IsReachedIn seen n → (row_at (member_at seen.ring q) p).heard ≡ messages_between (row_at (member_at seen.ring q) p).base (row_at (member_at seen.ring q) p).got (log_of seen.ring p)
-reached_hears seen n q p r =
-    subst (λ v. (row_at (member_at v q) p).heard ≡ messages_between (row_at (member_at v q) p).base (row_at (member_at v q) p).got (log_of v p)) (sym r.is) ((every_state_lawful r.credit r.names r.events r.are r.run).in_order q p)
+reached_hears seen n q p r = (reached_laws seen n r).ring.in_order q p
 
 pub heard_in_order : (a : Inside) (q p : Option ℕ) → IsRunning a → heard_at (state_of a) q p ≡ messages_between (base_at (state_of a) q p) (got_at (state_of a) q p) (log_at (state_of a) p)
 heard_in_order a (Some q) (Some p) r = ∥∥₁_elim r.reached (lists_set _ _) (reached_hears (seen_of a) a.applied q p)
@@ -179,16 +189,29 @@ lawful_from seen n i v r f = record {
   links = links_from seen n v r (λ h. (f h).links);
 }
 
-reached_lawful : (seen : WorldSeen) (n : ℕ) → IsReachedIn seen n → IsLawful seen.ring.initial seen.ring
+-- and the copies keep their credit
+copies_from : (seen : WorldSeen) (n i : ℕ) (W : CopyWorld) → ∥ IsReachedIn seen n ∥₁ → (IsReachedIn seen n → CopiesKeepCredit i W) → CopiesKeepCredit i W
+copies_from seen n i W r f k l = record {
+  kept = ∥∥₁_elim r (ℕ_set _ _) (λ h. (f h k l).kept);
+  few = ∥∥₁_elim r le_prop (λ h. (f h k l).few);
+  within = ∥∥₁_elim r le_prop (λ h. (f h k l).within);
+  whole = ∥∥₁_elim r (ℕ_set _ _) (λ h. (f h k l).whole);
+  held_whole = λ a b. ∥∥₁_elim r le_prop (λ h. (f h k l).held_whole a b);
+  waits = λ a b c. (∥∥₁_elim r (tests_set _ _) (λ h. ((f h k l).waits a b c).0), ∥∥₁_elim r le_prop (λ h. ((f h k l).waits a b c).1));
+}
+
+reached_lawful : (seen : WorldSeen) (n : ℕ) → IsReachedIn seen n → IsLawfulWithCopies seen.ring.initial (with_copies seen)
 reached_lawful seen n r =
-    subst (λ v. IsLawful v.initial v) (sym r.is)
-    (subst (λ i. IsLawful i (last (opening r.credit r.names) r.events)) (sym (run_credited r.credit r.names r.events r.are r.run).initial_is) (every_state_lawful r.credit r.names r.events r.are r.run))
+    let k : RingRuns (without_copies (opening r.credit r.names)) (map sort_of r.events) = reached_runs seen n r in
+    let same : seen.ring.initial ≡ r.credit.initial = ap (λ (w : World). w.initial) (sym (reached_ring seen n r)) ∙ (run_credited r.credit r.names k.acts r.are k.run).initial_is in
+    subst (λ i. IsLawfulWithCopies i (with_copies seen)) (sym same) (reached_laws seen n r)
 
 -- and so is the state after one more event
-pub lawful_more : (seen : WorldSeen) (w : World) (n : ℕ) (e : Event) → ∥ IsReachedIn seen n ∥₁ → refusal seen.ring e ≡ None → w ≡ effect seen.ring e → IsLawful w.initial w
-lawful_more seen w n e r x is =
-    let after : WorldSeen = record { ring = w; refusals = seen.refusals ++ refusals_of (e ∷ []) } in
-    lawful_from seen n w.initial w r (λ h. reached_lawful after (n + 1) (reached_more seen after n (n + 1) e h x is refl refl))
+pub lawful_more : (seen : WorldSeen) (W : CopyWorld) (n : ℕ) (e : Event) → ∥ IsReachedIn seen n ∥₁ → refusal (with_copies seen) e ≡ None → W ≡ effect (with_copies seen) e → IsLawfulWithCopies W.ring.initial W
+lawful_more seen W n e r x is =
+    let after : WorldSeen = record { ring = W.ring; copies = W.copies; refusals = seen.refusals ++ refusals_of (e ∷ []) } in
+    let held : IsReachedIn seen n → IsLawfulWithCopies W.ring.initial W = λ h. reached_lawful after (n + 1) (reached_more seen after n (n + 1) e h x is refl refl) in
+    record { ring = lawful_from seen n W.ring.initial W.ring r (λ h. (held h).ring); credit = copies_from seen n W.ring.initial W r (λ h. (held h).credit) }
 
 -- ---- names
 
@@ -197,8 +220,8 @@ places_set p q = hlevel props
 
 reached_found : (seen : WorldSeen) (n x : ℕ) → 1 ≤ x → x < size seen.ring → IsReachedIn seen n → id_of seen.ring (member_at seen.ring x).name ≡ Some x
 reached_found seen n x some lt r =
-    subst (λ v. id_of v (member_at v x).name ≡ Some x) (sym r.is)
-    (named_found (last (opening r.credit r.names) r.events) x (reached_named r.credit r.names r.events r.are r.run) some (subst (λ v. x < size v) r.is lt))
+    let k : RingRuns (without_copies (opening r.credit r.names)) (map sort_of r.events) = reached_runs seen n r in
+    named_found seen.ring x (subst AreNamed (reached_ring seen n r) (reached_named r.credit r.names k.acts r.are k.run)) some lt
 
 -- each member is the one that its name finds
 pub name_found : (a : Inside) (x : ℕ) → IsRunning a → 1 ≤ x → x < size (state_of a) → id_of (state_of a) (member_at (state_of a) x).name ≡ Some x

@@ -1,5 +1,5 @@
 -- What the laws of the queue say of each state that a World holds.
-use Rattle.std.proofs.Common.{◌≡◌, ℕ, ◌<◌, ◌+◌, ◌^◌, Bool, List, [], ◌∷◌, ◌++◌, length, Option, None, refl, sym, subst, lit<, arith}
+use Rattle.std.proofs.Common.{◌≡◌, ℕ, ◌<◌, ◌+◌, ◌^◌, Bool, List, [], ◌∷◌, ◌++◌, length, map, ◌∙◌, Option, None, refl, sym, subst, lit<, arith}
 use Rattle.std.specs.Coded.{le_prop}
 use Rattle.std.proofs.Math.Logic.{∥∥₁_elim}
 use Rattle.std.proofs.Props.{props}
@@ -7,12 +7,16 @@ use Rattle.queue_core.specs.declared.op.Op.{Op}
 use Rattle.queue_core.specs.Queue.{Item, greatest}
 use Rattle.queue_laws.specs.Laws.{MirrorsAgree, ConfirmedStands}
 use Rattle.ring_rules.specs.Machine.{World}
-use Rattle.ring_rules.specs.Event.{refusal, effect, refusals_of}
+use Rattle.ring_rules.specs.Event.{refusals_of}
+use Rattle.ring_copies.specs.Copies.{CopyWorld}
+use Rattle.ring_copies.specs.Events.{sort_of}
+use Rattle.ring_copies.specs.Runs.{refusal, effect}
+use Rattle.ring_copies.proofs.Runs.{queue_right_with_copies}
+use Rattle.std.proofs.lemmas.List.{length-map}
 use Rattle.ring_rules.specs.declared.event.Event.{Event}
 use Rattle.ring_rules.specs.QueuePart.{part_of}
 use Rattle.ring_rules.specs.QueueLaws.{QueueIsRight}
-use Rattle.ring_rules.proofs.runs.OfEvents.{run_queue_right}
-use Rattle.ring_world.specs.Reached.{WorldSeen, IsReachedIn}
+use Rattle.ring_world.specs.Reached.{WorldSeen, IsReachedIn, with_copies}
 use Rattle.ring_world.proofs.code.Running.{reached_more}
 
 bools_set : (a b : Bool) → IsProp (a ≡ b)
@@ -46,17 +50,18 @@ module _ (seen : WorldSeen) (n : ℕ) (v : World) (r : ∥ IsReachedIn seen n �
   confirmed_from = λ i q a b c d e. ∥∥₁_elim r (bools_set _ _) (λ h. (f h).stands i q a b c d e)
 
 -- the state after one more event
-right_after : (seen : WorldSeen) (w : World) (n : ℕ) (e : Event) → n < 2 ^ 59 → refusal seen.ring e ≡ None → w ≡ effect seen.ring e → IsReachedIn seen n → QueueIsRight (n + 1) w
-right_after seen w n e few x is h =
-    let after : WorldSeen = record { ring = w; refusals = seen.refusals ++ refusals_of (e ∷ []) } in
+right_after : (seen : WorldSeen) (W : CopyWorld) (n : ℕ) (e : Event) → n < 2 ^ 59 → refusal (with_copies seen) e ≡ None → W ≡ effect (with_copies seen) e → IsReachedIn seen n → QueueIsRight (n + 1) W.ring
+right_after seen W n e few x is h =
+    let after : WorldSeen = record { ring = W.ring; copies = W.copies; refusals = seen.refusals ++ refusals_of (e ∷ []) } in
     let m : IsReachedIn after (n + 1) = reached_more seen after n (n + 1) e h x is refl refl in
     let small : 2 ^ 59 + 1 < greatest = lit< tt in
-    subst (λ k. QueueIsRight k w) m.count (subst (QueueIsRight (length m.events)) (sym m.is) (run_queue_right m.credit m.names m.events m.are m.run (omega (arith, m.count, few, small))))
+    let many : length (map sort_of m.events) ≡ n + 1 = length-map m.events sort_of ∙ m.count in
+    subst (λ k. QueueIsRight k W.ring) many (subst (λ (V : CopyWorld). QueueIsRight (length (map sort_of m.events)) V.ring) (sym m.is) (queue_right_with_copies m.credit m.names m.are (map sort_of m.events) (omega (arith, many, few, small)) m.run))
 
 -- all mirrors agree in it
-pub mirrors_more : (seen : WorldSeen) (w : World) (n : ℕ) (e : Event) → ∥ IsReachedIn seen n ∥₁ → n < 2 ^ 59 → refusal seen.ring e ≡ None → w ≡ effect seen.ring e → MirrorsAgree (part_of w)
-mirrors_more seen w n e r few x is = mirrors_from seen n w r (right_after seen w n e few x is)
+pub mirrors_more : (seen : WorldSeen) (W : CopyWorld) (n : ℕ) (e : Event) → ∥ IsReachedIn seen n ∥₁ → n < 2 ^ 59 → refusal (with_copies seen) e ≡ None → W ≡ effect (with_copies seen) e → MirrorsAgree (part_of W.ring)
+mirrors_more seen W n e r few x is = mirrors_from seen n W.ring r (right_after seen W n e few x is)
 
 -- and what is confirmed stands
-pub confirmed_more : (seen : WorldSeen) (w : World) (n : ℕ) (e : Event) → ∥ IsReachedIn seen n ∥₁ → n < 2 ^ 59 → refusal seen.ring e ≡ None → w ≡ effect seen.ring e → ConfirmedStands (part_of w)
-confirmed_more seen w n e r few x is = confirmed_from seen n w r (right_after seen w n e few x is)
+pub confirmed_more : (seen : WorldSeen) (W : CopyWorld) (n : ℕ) (e : Event) → ∥ IsReachedIn seen n ∥₁ → n < 2 ^ 59 → refusal (with_copies seen) e ≡ None → W ≡ effect (with_copies seen) e → ConfirmedStands (part_of W.ring)
+confirmed_more seen W n e r few x is = confirmed_from seen n W.ring r (right_after seen W n e few x is)

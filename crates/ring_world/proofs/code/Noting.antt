@@ -7,16 +7,7 @@ use Rattle.ring_rules.specs.Event.{is_refusal, refusals_of, effect, at_found, id
 use Rattle.ring_rules.specs.declared.event.Event.TheVariants.{Refuse}
 use Rattle.ring_rules.specs.declared.event.Event.{Event}
 
-stays : (w : World) (o : Option ℕ) → at_found o w (λ x. w) ≡ w
-stays w None = refl
-stays w (Some x) = refl
-
--- a refusal leaves the ring as it is
-pub refusal_stays : (w : World) (e : Event) → is_refusal e ≡ true → w ≡ effect w e
-refusal_stays w (Refuse code inner) h = sym (stays w (id_of w (by_of (Refuse code inner))))
-refusal_stays w e h = absurd (false≢true h)
-
--- and is noted
+-- a refusal is noted
 pub refusal_noted : (es : List Event) (e : Event) → is_refusal e ≡ true → es ++ e ∷ [] ≡ es ++ refusals_of (e ∷ [])
 refusal_noted es e h = rw h refl
 

@@ -1,7 +1,7 @@
 -- Lemmas that the code names together.
 use Rattle.ring_rules.proofs.events.Enabled.{up_phase, up_later, running_later, link_there, link_later, first_none, refresh_later, refresh_upto}
 use Rattle.ring_rules.proofs.code.Enables.{running_runs}
-use Rattle.ring_world.proofs.code.Noting.{refusal_stays, refusal_noted, not_noted}
+use Rattle.ring_world.proofs.code.Noting.{refusal_noted, not_noted}
 use Rattle.ring_world.proofs.code.Padded.{known_more, row_more}
 use Rattle.ring_world.proofs.code.Found.{out_at, current_running}
 use Rattle.ring_world.proofs.code.ShownParts.{read_member, read_link, read_row, rewrite_row, rewrite_member, rewrite_link, published_rows, published_members, pushed_links}
@@ -33,4 +33,4 @@ pub ruleset padding = (known_more, row_more)
 pub ruleset putting = (read_link, pushed_links, rewrite_link)
 
 -- what a World notes
-pub ruleset noting = (refusal_stays, refusal_noted, not_noted)
+pub ruleset noting = (refusal_noted, not_noted)

@@ -9,15 +9,14 @@ use Rattle.ring_rules.specs.Rows.{no_row, published_row, taken_row, born_row}
 use Rattle.group_view.specs.Change.{AreOpeningNames}
 use Rattle.ring_rules.specs.Machine.{Member, Link, World, no_member, member_at, link_at, view_in, row_at, numbers_at, oldest}
 use Rattle.ring_rules.specs.Step.{size, published, taker, is_owned, log_of, begun, begun_row, stopped, joiner, come_to, open_to, take_from, begin_from, opening, opening_member}
-use Rattle.ring_rules.specs.Event.{refusal, effect}
 use Rattle.ring_rules.specs.declared.event.Event.{Event}
 use Rattle.ring_rules.proofs.rings.Lists.{at_set}
 use Rattle.ring_rules.proofs.events.First.{first_member}
-use Rattle.ring_rules.specs.Act.{act_of}
+use Rattle.ring_rules.specs.Act.{Act, refusal, effect}
 use Rattle.ring_rules.proofs.events.Parts.{Part, IsSameRows, member_same, act_keeps, cast_part, put_part, take_part, begin_part, come_part, gain_part, stop_part, open_part, still_part}
 use Rattle.ring_rules.proofs.invariants.Happens.{IsGood}
 use Rattle.ring_rules.proofs.runs.OwnLogs.{IsLogged, opening_logged}
-use Rattle.ring_rules.proofs.runs.OfEvents.{event_logged}
+use Rattle.ring_rules.proofs.runs.OwnLogs.{act_logged}
 
 -- no member has more rows than there are members
 abbrev pub HasFewRows : World → Type 0
@@ -76,9 +75,9 @@ part_few w w' (still_part k) h = same_few w w' k.same h
 
 -- ---- events
 
--- one event more
-pub event_sized : (w : World) (e : Event) → IsGood w → refusal w e ≡ None → IsSized w → IsSized (effect w e)
-event_sized w e g r h = record { rows = act_keeps IsGood HasFewRows part_few w (act_of e) g g r h.rows; logged = event_logged w e g r h.logged }
+-- one act more
+pub act_sized : (w : World) (a : Act) → IsGood w → refusal w a ≡ None → IsSized w → IsSized (effect w a)
+act_sized w a g r h = record { rows = act_keeps IsGood HasFewRows part_few w a g g r h.rows; logged = act_logged w a g r h.logged }
 
 -- the opening
 pub opening_sized : (credit : CreditSpec) (names : List (List ℕ)) → AreOpeningNames names → IsSized (opening credit names)

@@ -6,8 +6,8 @@ use Rattle.ring_cluster.specs.Agendas.{Plan}
 use Rattle.ring_cluster.proofs.lists.Plans.{place_is, found_name, found_written, given_with, given_begins}
 use Rattle.ring_cluster.proofs.agenda.give_task.Goals as goal
 
-pub push-requires : goal.push-requires
-push-requires c =
+pub push-requires-clause-asked : goal.push-requires-clause-asked
+push-requires-clause-asked c =
     let at : c.place_of.result ≡ position (λ (a : Plan). bytes_eq a.name (asked_of c.args.task)) c.args.agendas.now.items =
     subst (λ n. c.place_of.result ≡ position (λ (a : Plan). bytes_eq a.name n) c.args.agendas.now.items) c.by.ensures
     (c.place_of.ensures.place ∙ ap (position (λ (a : Plan). bytes_eq a.name c.by.result.now)) c.deref.ensures.value) in

@@ -2,7 +2,7 @@ use Rattle.std.proofs.Common.{◌≡◌, Some, ◌∙◌, sym, subst}
 use Rattle.std.specs.List.{All}
 use Rattle.group_view.specs.Change.{AreOpeningNames}
 use Rattle.ring_rules.specs.Step.{opening}
-use Rattle.ring_rules.specs.Event.{IsRun}
+use Rattle.ring_copies.specs.Runs.{IsRun, without_copies}
 use Rattle.ring_journal.specs.Written.{IsWithin}
 use Rattle.ringplay.specs.Performed.{HasTurns, IsPlayedBy, Tells, reported}
 use Rattle.ringplay.proofs.Playing.{all_turns, has_played, played_run, played_by}
@@ -26,7 +26,7 @@ with_journal-requires-clause-within g c =
     let journal = c.in_ok-journal.journal.items in
     let played = has_played s c.deref.result.now c.into_vec-lines.result.items c.in_ok-cluster.cluster (c.deref.ensures.value ∙ c.into_vec-names.ensures) c.into_vec-lines.ensures c.in_ok-cluster.ensures in
     let ran = played_run s journal c.in_ok-cluster.cluster played c.in_ok-journal.ensures in
-    subst (All IsWithin) (sym c.deref-3.ensures.value) (c.a_run_is_within.ensures s.credit s.members journal ran.are ran.run.run
+    subst (All IsWithin) (sym c.deref-3.ensures.value) (c.a_run_is_within.ensures s.credit s.members journal ran.are ran.alone
     (played_names s c.in_ok-cluster.cluster journal c.requires played.given played.going played.plays.served c.in_ok-journal.ensures))
 
 pub with_journal-requires-clause-run : goal.with_journal-requires-clause-run
@@ -35,8 +35,8 @@ with_journal-requires-clause-run g c =
     let journal = c.in_ok-journal.journal.items in
     let played = has_played s c.deref.result.now c.into_vec-lines.result.items c.in_ok-cluster.cluster (c.deref.ensures.value ∙ c.into_vec-names.ensures) c.into_vec-lines.ensures c.in_ok-cluster.ensures in
     let ran = played_run s journal c.in_ok-cluster.cluster played c.in_ok-journal.ensures in
-    subst (IsRun (opening s.credit c.deref-2.result.now)) (sym c.deref-3.ensures.value)
-    (subst (λ names. IsRun (opening s.credit names) journal) (sym (c.deref-2.ensures.value ∙ c.into_vec-names.ensures)) ran.run.run)
+    subst (IsRun (without_copies (opening s.credit c.deref-2.result.now))) (sym c.deref-3.ensures.value)
+    (subst (λ names. IsRun (without_copies (opening s.credit names)) journal) (sym (c.deref-2.ensures.value ∙ c.into_vec-names.ensures)) ran.run.run)
 
 pub returns : goal.returns
 returns g c =

@@ -2,7 +2,7 @@ use Rattle.std.proofs.Common.{◌≡◌, ◌++◌, Some, ◌∙◌, sym, ap, sub
 use Rattle.std.specs.List.{All}
 use Rattle.group_view.specs.Change.{AreOpeningNames}
 use Rattle.ring_rules.specs.Step.{opening}
-use Rattle.ring_rules.specs.Event.{IsRun}
+use Rattle.ring_copies.specs.Runs.{IsRun, without_copies}
 use Rattle.ring_journal.specs.Written.{IsWithin}
 use Rattle.ring_script.specs.Reading.{HaveNameablePositions}
 use Rattle.ring_cluster.specs.Seen.{state_of, opening_seen}
@@ -33,7 +33,7 @@ with_journal-requires-clause-within c =
     c.in_ok-cluster.ensures.opens ∙ ap (opening_seen s.credit) (c.deref.ensures.value ∙ c.into_vec-names.ensures) in
     let of = stepped_of s.credit s.members a b (enabled_of (state_of a) c.as_slice.result.now) opens c.in_ok-try_lines.ensures.stepped in
     let ran = has_run s.credit s.members c.in_ok-journal.journal.items b of.credit of.names c.in_ok-journal.ensures c.is_going.ensures in
-    subst (All IsWithin) (sym c.deref-3.ensures.value) (c.a_run_is_within.ensures s.credit s.members c.in_ok-journal.journal.items ran.are ran.run.run
+    subst (All IsWithin) (sym c.deref-3.ensures.value) (c.a_run_is_within.ensures s.credit s.members c.in_ok-journal.journal.items ran.are ran.alone
     (stepped_journal s.credit s.members a b c.as_slice.result.now c.in_ok-journal.journal.items opens c.in_ok-try_lines.ensures.stepped
     (subst HaveNameablePositions (sym c.as_slice.ensures) c.requires.positions) c.in_ok-journal.ensures))
 
@@ -45,8 +45,8 @@ with_journal-requires-clause-run c =
     let of = stepped_of s.credit s.members a b (enabled_of (state_of a) c.as_slice.result.now)
     (c.in_ok-cluster.ensures.opens ∙ ap (opening_seen s.credit) (c.deref.ensures.value ∙ c.into_vec-names.ensures)) c.in_ok-try_lines.ensures.stepped in
     let ran = has_run s.credit s.members c.in_ok-journal.journal.items b of.credit of.names c.in_ok-journal.ensures c.is_going.ensures in
-    subst (IsRun (opening s.credit c.deref-2.result.now)) (sym c.deref-3.ensures.value)
-    (subst (λ names. IsRun (opening s.credit names) c.in_ok-journal.journal.items) (sym (c.deref-2.ensures.value ∙ c.into_vec-names.ensures)) ran.run.run)
+    subst (IsRun (without_copies (opening s.credit c.deref-2.result.now))) (sym c.deref-3.ensures.value)
+    (subst (λ names. IsRun (without_copies (opening s.credit names)) c.in_ok-journal.journal.items) (sym (c.deref-2.ensures.value ∙ c.into_vec-names.ensures)) ran.run.run)
 
 pub returns : goal.returns
 returns c =

@@ -13,5 +13,5 @@ returns c =
     let f = from_some _ _ _ _ c.in-Some.is c.next_task.ensures.next in
     let same = ap (λ x. agenda_of x c.args.name.now) c.self.view_is in
     IfOk-weaker c.answer_to.result _ _
-    (λ o h. next_answer c.args.self.now c.args.name.now c.in-Some.task.now f.0 (sym same ∙ f.1) c.in-Some.ensures.asked o h)
+    (λ o h. next_answer c.args.self.now c.args.name.now c.in-Some.task.now f.0 (sym same ∙ f.1) c.in-Some.ensures.asked c.in-Some.ensures.no_copy o h)
     c.answer_to.ensures
