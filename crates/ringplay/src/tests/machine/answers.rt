@@ -174,6 +174,10 @@ fn asked(alloc: Global, client: &Client) -> Result<String, Fail> {
             let name = str::from_utf8(name.bytes())?;
             Ok(format!(in alloc; "admit {by} {name}")?)
         }
+        Client::Sync { by: _, target } => {
+            let target = str::from_utf8(target.bytes())?;
+            Ok(format!(in alloc; "sync {by} {target}")?)
+        }
     }
 }
 
